@@ -1,0 +1,17 @@
+//! What all other crates speak of: texts and names, lists of them, places, faults and want of memory.
+#![tactic(auto)]
+
+mod errors;
+mod names;
+mod places;
+mod series;
+mod texts;
+
+pub use errors::NoMemory;
+pub use names::Name;
+pub use places::{Fault, Phase, Place, Stop};
+pub use series::{EntryNames, FileBytes, Paths, Series, SourceFile, SourceFiles, Units, Words};
+pub use texts::Text;
+
+#[cfg(test)]
+mod tests;
