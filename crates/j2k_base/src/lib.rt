@@ -2,12 +2,14 @@
 #![tactic(auto)]
 
 mod errors;
+mod file_map;
 mod names;
 mod places;
 mod series;
 mod texts;
 
 pub use errors::NoMemory;
+pub use file_map::FileMap;
 pub use names::Name;
 pub use places::{Fault, Phase, Place, Stop};
 pub use series::{EntryNames, FileBytes, Paths, Series, SourceFile, SourceFiles, Units, Words};

@@ -31,3 +31,23 @@ fn texts(rt: HostRuntime) -> Result<(), Fail> {
     assert_eq!(rt; *name.get(0), b'n');
     Ok(())
 }
+
+#[test]
+fn file_maps(rt: HostRuntime) -> Result<(), Fail> {
+    let alloc = rt.alloc();
+    let mut files = FileMap::new(alloc);
+    for (name, byte) in [("b", 1), ("a", 2), ("c", 3), ("b", 4)] {
+        let mut bytes = FileBytes::new(alloc);
+        bytes.push(byte)?;
+        files.insert(Text::from_str(alloc, name)?, bytes)?;
+    }
+    files.insert_copy(&Text::from_str(alloc, "d")?, b"x")?;
+    assert_eq!(rt; files.len(), 4);
+    for (name, want) in [("a", 2), ("b", 4), ("c", 3), ("d", b'x')] {
+        let found = files.get(&Text::from_str(alloc, name)?);
+        assert!(rt; found.is_some_and(|bytes| bytes.as_slice() == [want].as_slice()), "at {name}");
+    }
+    assert!(rt; files.get(&Text::from_str(alloc, "e")?).is_none());
+    assert_eq!(rt; files.entries().len(), 4);
+    Ok(())
+}
