@@ -101,7 +101,7 @@ module _ {K X : Type 0} (R : K → K → Ordering) (o : IsTotalOrder R) where
   put_is : (es new : List (K × X)) (x : K) (v : X) → T (finite.is_sorted R es) → new ≡ finite.put R x v es → T (finite.is_sorted R new) × (finite.from_sorted {R = R} new ≡ finite.insert (finite.from_sorted {R = R} es) x v)
   put_is es new x v s h =
       let entries_are : finite.entries (finite.insert (finite.from_sorted {R = R} es) x v) ≡ new =
-          entries-insert o (finite.from_sorted {R = R} es) x v ∙ ap (finite.put R x v) (entries-from_sorted R es s) ∙ sym h in
+      entries-insert o (finite.from_sorted {R = R} es) x v ∙ ap (finite.put R x v) (entries-from_sorted R es s) ∙ sym h in
       let sorted : T (finite.is_sorted R new) = subst (λ (l : List (K × X)). T (finite.is_sorted R l)) entries_are (entries_sorted (finite.insert (finite.from_sorted {R = R} es) x v)) in
       (sorted, same_entries_map _ _ (entries-from_sorted R new sorted ∙ sym entries_are))
 

@@ -45,7 +45,10 @@ fn file_maps(rt: HostRuntime) -> Result<(), Fail> {
     assert_eq!(rt; files.len(), 4);
     for (name, want) in [("a", 2), ("b", 4), ("c", 3), ("d", b'x')] {
         let found = files.get(&Text::from_str(alloc, name)?);
-        assert!(rt; found.is_some_and(|bytes| bytes.as_slice() == [want].as_slice()), "at {name}");
+        assert!(rt;
+            found.is_some_and(|bytes| bytes.as_slice() == [want].as_slice()),
+            "at {name}"
+        );
     }
     assert!(rt; files.get(&Text::from_str(alloc, "e")?).is_none());
     assert_eq!(rt; files.entries().len(), 4);

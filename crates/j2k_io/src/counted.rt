@@ -8,7 +8,11 @@ use crate::Fails;
 fn kept(failing: &Fails, call: u32) -> Option<u32>
     ensures { result ≡ keep_of failing.now call }
 {
-    failing.as_slice().iter().find(|fail| fail.call == call).map(|fail| fail.keep)
+    failing
+        .as_slice()
+        .iter()
+        .find(|fail| fail.call == call)
+        .map(|fail| fail.keep)
 }
 
 // Counts a call, and answers how many bytes are kept where it fails.

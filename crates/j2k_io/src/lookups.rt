@@ -38,12 +38,7 @@ fn rest_below<'a>(folder: &str, path: &'a str) -> Option<&'a str>
 }
 
 // Adds what a path is below a folder, where it lies there.
-fn push_below(
-    paths: &mut Paths,
-    alloc: Global,
-    folder: &Text,
-    path: &Text,
-) -> Result<(), NoMemory>
+fn push_below(paths: &mut Paths, alloc: Global, folder: &Text, path: &Text) -> Result<(), NoMemory>
     ensures { OnOk result (paths.new ≡ paths.old ++ option_to_list (below folder.now path.now)) }
 {
     if let Some(rest) = rest_below(folder.as_str(), path.as_str()) {

@@ -11,11 +11,12 @@ fn one_file(alloc: Global) -> Result<FileMap, NoMemory> {
     Ok(files)
 }
 
-// A list of two failing calls.
-fn two_fails(alloc: Global, first: Fail, second: Fail) -> Result<Fails, NoMemory> {
+// A list of two failing calls, each a number and what it keeps.
+fn two_fails(alloc: Global, first: (u32, u32), second: (u32, u32)) -> Result<Fails, NoMemory> {
     let mut fails = Fails::new(alloc);
-    fails.push(first)?;
-    fails.push(second)?;
+    for (call, keep) in [first, second] {
+        fails.push(Fail { call, keep })?;
+    }
     Ok(fails)
 }
 
@@ -38,26 +39,40 @@ fn is_path(answer: Result<Paths, DiskStop>, want: &str) -> bool {
 #[test]
 fn listed_calls_fail(rt: HostRuntime) -> Result<(), Failure> {
     let alloc = rt.alloc();
-    let never = Fail { call: 9, keep: 0 };
     let source = Text::from_str(alloc, "src")?;
     let path = Text::from_str(alloc, "src/a/b.txt")?;
     let target = Text::from_str(alloc, "out/c")?;
     for (first, second, lists, reads, writes, kept) in [
-        (never, never, true, true, true, "abc"),
-        (Fail { call: 1, keep: 1 }, never, false, true, true, "abc"),
-        (Fail { call: 2, keep: 1 }, never, true, false, true, "abc"),
-        (Fail { call: 3, keep: 2 }, Fail { call: 3, keep: 0 }, true, true, false, "ab"),
-        (Fail { call: 1, keep: 2 }, Fail { call: 3, keep: 0 }, false, true, false, ""),
-        (never, Fail { call: 3, keep: 4 }, true, true, false, "abc"),
+        ((9, 0), (9, 0), true, true, true, "abc"),
+        ((1, 1), (9, 0), false, true, true, "abc"),
+        ((2, 1), (9, 0), true, false, true, "abc"),
+        ((3, 2), (3, 0), true, true, false, "ab"),
+        ((1, 2), (3, 0), false, true, false, ""),
+        ((9, 0), (3, 4), true, true, false, "abc"),
     ] {
         let mut disk = MemDisk::new(one_file(alloc)?, two_fails(alloc, first, second)?);
-        assert_eq!(rt; is_path(disk.list(alloc, &source), "a/b.txt"), lists, "at {kept}");
+        assert_eq!(rt;
+            is_path(disk.list(alloc, &source), "a/b.txt"),
+            lists,
+            "at {kept}"
+        );
         assert!(rt; disk.files().get(&path).is_some());
-        assert_eq!(rt; is_whole(disk.read(alloc, &path, 5), b"hello"), reads, "at {kept}");
+        assert_eq!(rt;
+            is_whole(disk.read(alloc, &path, 5), b"hello"),
+            reads,
+            "at {kept}"
+        );
         assert!(rt; disk.files().get(&target).is_none());
-        assert_eq!(rt; disk.write_new(&target, b"abc").is_ok(), writes, "at {kept}");
+        assert_eq!(rt;
+            disk.write_new(&target, b"abc").is_ok(),
+            writes,
+            "at {kept}"
+        );
         let left = disk.files().get(&target);
-        assert!(rt; left.is_some_and(|bytes| bytes.as_slice() == kept.as_bytes()), "at {kept}");
+        assert!(rt;
+            left.is_some_and(|bytes| bytes.as_slice() == kept.as_bytes()),
+            "at {kept}"
+        );
     }
     Ok(())
 }
@@ -65,10 +80,14 @@ fn listed_calls_fail(rt: HostRuntime) -> Result<(), Failure> {
 #[test]
 fn listed_puts_fail(rt: HostRuntime) -> Result<(), Failure> {
     let alloc = rt.alloc();
-    let first = Fail { call: 2, keep: 1 };
-    let second = Fail { call: 4, keep: 7 };
-    let mut sink = MemSink::new(alloc, two_fails(alloc, first, second)?);
-    for (text, want) in [("ab", true), ("cd", false), ("ef", true), ("gh", false), ("", true)] {
+    let mut sink = MemSink::new(alloc, two_fails(alloc, (2, 1), (4, 7))?);
+    for (text, want) in [
+        ("ab", true),
+        ("cd", false),
+        ("ef", true),
+        ("gh", false),
+        ("", true),
+    ] {
         assert_eq!(rt; sink.put(text.as_bytes()).is_ok(), want, "at {text}");
     }
     assert_eq!(rt; sink.bytes(), b"abcefgh".as_slice());
