@@ -1,0 +1,12 @@
+pub mod Again
+pub mod Files
+pub mod Lists
+pub mod Numbers
+pub mod Once
+pub mod Outcomes
+pub mod Paths
+pub mod Projects
+pub mod Scopes
+pub mod Sound
+pub mod Statements
+pub mod Strips

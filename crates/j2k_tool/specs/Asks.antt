@@ -1,0 +1,118 @@
+-- What the words of a command line and the files of a disk ask for, and when it was done.
+use Rattle.std.specs.Prelude.{◌≡◌, ◌⊎◌, ℕ, ◌++◌, List, [], ◌∷◌, Option, Some, None}
+use Rattle.j2k_io.specs.Disks.{Files, in_folder, listing, with_files, IsCut}
+use Rattle.j2k_io.specs.Sinks.{appended, IsPartOf}
+use Rattle.meanings.specs.declared.java.JClass.{JClass}
+use Rattle.meanings.specs.Convert.{class_of}
+use Rattle.meanings.specs.KText.{KText}
+use Rattle.j2k_tool.specs.declared.texts.TheConstants.{DONE, USAGE, READ_FAULT, WRITE_FAULT, NO_MEMORY, NOT_EMPTY, LINE_END, KOTLIN_END, REPORT_FILE}
+use Rattle.j2k_tool.specs.declared.status.Status.{Status}
+use Rattle.j2k_tool.specs.declared.status.Status.TheVariants.{Done, Refused, Usage, ReadFault, WriteFault, NoMemory, NotEmpty, TooLarge, OutFault}
+use Rattle.j2k_tool.specs.Faults.{fault_line}
+use Rattle.j2k_tool.specs.Projects.{IsProject, IsNoProject, first_fault}
+use Rattle.j2k_tool.specs.Report.{report_text}
+use Rattle.j2k_tool.specs.Words.{words_mean}
+
+-- a status, the text that is printed, and the files that are made, each a path and its bytes
+pub record Answer : Type 0 where
+  pub status : Status
+  pub text : List ℕ
+  pub files : List (List ℕ × List ℕ)
+
+abbrev pub usage : Answer
+usage = record { status = Usage; text = USAGE.now; files = [] }
+
+abbrev pub not_empty : List ℕ → Answer
+not_empty dst = record { status = NotEmpty; text = NOT_EMPTY.now ++ dst ++ LINE_END.now; files = [] }
+
+abbrev pub refused : List ℕ → Files → Answer
+refused src files = record { status = Refused; text = fault_line (first_fault src files); files = [] }
+
+-- the Kotlin file and the report
+abbrev pub files_of : List ℕ → JClass → List (List ℕ × List ℕ)
+files_of dst class =
+    (in_folder dst (class.name ++ KOTLIN_END.now), KText (class_of class)) ∷ (in_folder dst REPORT_FILE.now, report_text class.name) ∷ []
+
+abbrev pub converted : List ℕ → JClass → Answer
+converted dst class = record { status = Done; text = DONE.now; files = files_of dst class }
+
+-- what stands in the folder of a project asks for this
+abbrev pub Converts : List ℕ → List ℕ → Files → Answer → Type 0
+Converts src dst files answer =
+    ((class : JClass) × IsProject src files class × (answer ≡ converted dst class))
+    ⊎ (IsNoProject src files × (answer ≡ refused src files))
+
+-- `convert` asks for this, with what is listed in the target folder
+abbrev pub AsksOver : List (List ℕ) → List ℕ → List ℕ → Files → Answer → Type 0
+AsksOver [] src dst files answer = Converts src dst files answer
+AsksOver (path ∷ paths) src dst files answer = answer ≡ not_empty dst
+
+abbrev pub AsksOf : Option (List ℕ × List ℕ) → Files → Answer → Type 0
+AsksOf None files answer = answer ≡ usage
+AsksOf (Some folders) files answer = AsksOver (listing folders.1 files) folders.0 folders.1 files answer
+
+-- the words and the files ask for this answer
+unfoldable pub Asks : List (List ℕ) → Files → Answer → Type 0
+Asks words files answer = AsksOf (words_mean words) files answer
+
+-- a status that answers what was asked for
+abbrev pub IsAnswer : Status → Type 0
+IsAnswer Done = Unit {0}
+IsAnswer Refused = Unit {0}
+IsAnswer Usage = Unit {0}
+IsAnswer NotEmpty = Unit {0}
+IsAnswer ReadFault = ⊥
+IsAnswer WriteFault = ⊥
+IsAnswer NoMemory = ⊥
+IsAnswer TooLarge = ⊥
+IsAnswer OutFault = ⊥
+
+-- It was answered: what was asked for has this status and this text, and its files were made.
+pub record Answered (asks : Answer → Type 0) (status : Status) (text : List ℕ) (old new : Option Files) : Type 0 where
+  pub answer : Answer
+  pub asked : asks answer
+  pub status_is : answer.status ≡ status
+  pub text_is : answer.text ≡ text
+  pub made : new ≡ with_files old answer.files
+
+-- It was answered, and the sink was given the text.
+pub record Told (asks : Answer → Type 0) (status : Status) (old new : Option Files) (given given_now : Option (List ℕ)) : Type 0 where
+  pub text : List ℕ
+  pub answered : Answered asks status text old new
+  pub whole : given_now ≡ appended given text
+
+-- The sink failed while it was given the text of what was answered.
+pub record Untold (asks : Answer → Type 0) (old new : Option Files) (given given_now : Option (List ℕ)) : Type 0 where
+  pub status : Status
+  pub text : List ℕ
+  pub answered : Answered asks status text old new
+  pub part : IsPartOf given text given_now
+
+-- It was stopped: nothing was written, or a part of what was asked for.
+abbrev pub Stopped : (Answer → Type 0) → Option Files → Option Files → Type 0
+Stopped asks old new = (new ≡ old) ⊎ ((answer : Answer) × asks answer × IsCut old answer.files new)
+
+-- This status was answered, unless memory ran out or one of these faults came.
+abbrev pub IsUnless : Status → Status → Type 0 → Type 0 → Type 0 → Type 0
+IsUnless wanted status read write out =
+    (status ≡ wanted) ⊎ (status ≡ NoMemory) ⊎ ((status ≡ ReadFault) × read) ⊎ ((status ≡ WriteFault) × write) ⊎ ((status ≡ OutFault) × out)
+
+-- the sink was given the text, or a part of it where it failed
+abbrev pub IsGiven : Option (List ℕ) → List ℕ → Option (List ℕ) → Type 0 → Type 0
+IsGiven given text given_now failed = (given_now ≡ appended given text) ⊎ (failed × IsPartOf given text given_now)
+
+-- a text that a run may print where memory ran out
+abbrev pub MayTell : (Answer → Type 0) → List ℕ → Type 0
+MayTell asks text = (text ≡ NO_MEMORY.now) ⊎ (text ≡ READ_FAULT.now) ⊎ (text ≡ WRITE_FAULT.now) ⊎ ((answer : Answer) × asks answer × (answer.text ≡ text))
+
+-- a status after which the files are as before
+abbrev pub KeepsFiles : Status → Type 0
+KeepsFiles Done = ⊥
+KeepsFiles Refused = Unit {0}
+KeepsFiles Usage = Unit {0}
+KeepsFiles NotEmpty = Unit {0}
+KeepsFiles ReadFault = Unit {0}
+KeepsFiles WriteFault = ⊥
+KeepsFiles NoMemory = ⊥
+KeepsFiles TooLarge = Unit {0}
+KeepsFiles OutFault = ⊥

@@ -1,0 +1,10 @@
+pub mod Asks
+pub mod Causes
+pub mod Faults
+pub mod Messages
+pub mod Projects
+pub mod Reading
+pub mod Refusals
+pub mod Report
+pub mod Taken
+pub mod Words
