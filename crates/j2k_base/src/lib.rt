@@ -1,6 +1,7 @@
 //! What all other crates speak of: texts and names, lists of them, places, faults and want of memory.
 #![tactic(auto)]
 
+mod choices;
 mod errors;
 mod file_map;
 mod names;
@@ -8,6 +9,7 @@ mod places;
 mod series;
 mod texts;
 
+pub use choices::{Choice, ChoiceKind, Choices};
 pub use errors::NoMemory;
 pub use file_map::FileMap;
 pub use names::Name;

@@ -10,7 +10,7 @@ use Rattle.j2k_tool.specs.declared.status.Status.{Status}
 use Rattle.j2k_tool.specs.declared.status.Status.TheVariants.{Done, Refused, Usage, ReadFault, WriteFault, NoMemory, NotEmpty, TooLarge, OutFault}
 use Rattle.j2k_tool.specs.Faults.{fault_line}
 use Rattle.j2k_tool.specs.Projects.{IsProject, IsNoProject, first_fault}
-use Rattle.j2k_tool.specs.Report.{report_text}
+use Rattle.j2k_tool.specs.Report.{Choices, ReportText}
 use Rattle.j2k_tool.specs.Words.{words_mean}
 
 -- a status, the text that is printed, and the files that are made, each a path and its bytes
@@ -31,7 +31,7 @@ refused src files = record { status = Refused; text = fault_line (first_fault sr
 -- the Kotlin file and the report
 abbrev pub files_of : List ℕ → JClass → List (List ℕ × List ℕ)
 files_of dst class =
-    (in_folder dst (class.name ++ KOTLIN_END.now), KText (class_of class)) ∷ (in_folder dst REPORT_FILE.now, report_text class.name) ∷ []
+    (in_folder dst (class.name ++ KOTLIN_END.now), KText (class_of class)) ∷ (in_folder dst REPORT_FILE.now, ReportText 1 (Choices class)) ∷ []
 
 abbrev pub converted : List ℕ → JClass → Answer
 converted dst class = record { status = Done; text = DONE.now; files = files_of dst class }

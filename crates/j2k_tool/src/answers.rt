@@ -11,7 +11,7 @@ use crate::faults::line_of;
 use crate::halt::{Halt, list, write};
 use crate::printing::text_of;
 use crate::project::{Project, read_project};
-use crate::report::report_of;
+use crate::report::{choices_of, report_of};
 use crate::status::Status;
 use crate::texts::{DONE, KOTLIN_END, LINE_END, NOT_EMPTY, REPORT_FILE, USAGE};
 use crate::words::folders;
@@ -116,7 +116,8 @@ fn write_project<D: Disk>(
 {
     let made = class_of(alloc, class)?;
     let kotlin = text_of(alloc, &made)?;
-    let report = report_of(alloc, &class.name)?;
+    let choices = choices_of(alloc, class)?;
+    let report = report_of(alloc, 1, choices.as_slice())?;
     let kotlin_path = named(alloc, class.name.as_str(), KOTLIN_END)?;
     let report_path = Text::from_str(alloc, REPORT_FILE)?;
     write(alloc, dst, &kotlin_path, &kotlin, disk)?;

@@ -149,7 +149,8 @@ pub fn push_number(alloc: Global, out: &mut Text, number: u32) -> Result<(), NoM
     out.push_str(digits.as_str())
 }
 
-fn push_place(alloc: Global, out: &mut Text, place: &Place) -> Result<(), NoMemory>
+/// Appends `PATH:LINE:COLUMN`.
+pub fn push_place(alloc: Global, out: &mut Text, place: &Place) -> Result<(), NoMemory>
     ensures { OnOk result (out.new ≡ out.old ++ place_text place.now) }
 {
     out.push_str(place.path.as_str())?;

@@ -1,20 +1,119 @@
-// The report on a project.
-ghost use Rattle.std.specs.Prelude.{◌≡◌, IfOk};
-ghost use Rattle.j2k_tool.specs.Report.{report_text};
+// The choices of a conversion, and the report on them.
+ghost use Rattle.std.specs.Prelude.{◌≡◌, ◌++◌, ◌<◌, ◌^◌, length, IfOk, OnOk};
+ghost use Rattle.std.specs.List.{flat_map};
+ghost use Rattle.j2k_tool.specs.Report.{kind_text as kind_text_by, choice_line, ReportText, Choices as choices_by};
 
-use crate::texts::{LINE_END, REPORT_COMPANION, REPORT_HEAD};
-use j2k_base::{Name, NoMemory, Text};
+use crate::faults::{BLANK, push_number, push_place};
+use crate::texts::{JAVA_END, LINE_END};
+use j2k_base::{Choice, ChoiceKind, Choices, NoMemory, Place, Text};
+use meanings::java::JClass;
 use std::alloc::Global;
 
-/// The report on a class whose `main` is static: it has a companion.
-#[tactic(auto, unfolding(crate::specs::Report::report_text))]
-pub fn report_of(alloc: Global, class: &Name) -> Result<Text, NoMemory>
-    ensures { IfOk result (λ text. text ≡ report_text class.now) }
+// The fixed parts of the report.
+
+pub const REPORT_FILES: &str = "j2k-report 1\nfiles ";
+
+pub const REPORT_CHOICES: &str = "\nchoices ";
+
+pub const KIND_COMPANION: &str = "companion";
+
+pub const KIND_PROPERTY: &str = "property";
+
+pub const KIND_RENAME: &str = "rename";
+
+pub const KIND_WIDEN: &str = "widen";
+
+pub const KIND_NULLABLE: &str = "nullable";
+
+pub const KIND_WHEN: &str = "when";
+
+pub const KIND_CHAIN: &str = "chain";
+
+pub const KIND_RANGE: &str = "range";
+
+pub const KIND_WHILE: &str = "while";
+
+pub const KIND_BIND: &str = "bind";
+
+pub const KIND_COPY: &str = "copy";
+
+pub const KIND_FOLD: &str = "fold";
+
+pub const KIND_DROP: &str = "drop";
+
+fn kind_text(kind: ChoiceKind) -> &'static str
+    ensures { result.now ≡ kind_text_by kind }
 {
-    let mut out = Text::from_str(alloc, REPORT_HEAD)?;
-    out.push_str(class.as_str())?;
-    out.push_str(REPORT_COMPANION)?;
-    out.push_str(class.as_str())?;
+    match kind {
+        ChoiceKind::Companion => KIND_COMPANION,
+        ChoiceKind::Property => KIND_PROPERTY,
+        ChoiceKind::Rename => KIND_RENAME,
+        ChoiceKind::Widen => KIND_WIDEN,
+        ChoiceKind::Nullable => KIND_NULLABLE,
+        ChoiceKind::When => KIND_WHEN,
+        ChoiceKind::Chain => KIND_CHAIN,
+        ChoiceKind::Range => KIND_RANGE,
+        ChoiceKind::While => KIND_WHILE,
+        ChoiceKind::Bind => KIND_BIND,
+        ChoiceKind::Copy => KIND_COPY,
+        ChoiceKind::Fold => KIND_FOLD,
+        ChoiceKind::Drop => KIND_DROP,
+    }
+}
+
+/// The choices of a class whose one member is its static `main`: it has a companion.
+pub fn choices_of(alloc: Global, class: &JClass) -> Result<Choices, NoMemory>
+    ensures { IfOk result (λ choices. choices ≡ choices_by class.now) }
+{
+    let mut path = Text::from_str(alloc, class.name.as_str())?;
+    path.push_str(JAVA_END)?;
+    let place = Place {
+        path,
+        offset: 13,
+        line: 1,
+        column: 14,
+    };
+    let text = Text::from_str(alloc, class.name.as_str())?;
+    let mut choices = Choices::new(alloc);
+    choices.push(Choice {
+        kind: ChoiceKind::Companion,
+        place,
+        text,
+    })?;
+    Ok(choices)
+}
+
+/// The report on so many files and these choices.
+#[tactic(auto, unfolding(crate::specs::Report::ReportText))]
+pub fn report_of(alloc: Global, files: u32, choices: &[Choice]) -> Result<Text, NoMemory>
+    requires { length choices.now < 2 ^ 32 }
+    ensures { IfOk result (λ text. text ≡ ReportText files choices.now) }
+{
+    let mut out = Text::from_str(alloc, REPORT_FILES)?;
+    push_number(alloc, &mut out, files)?;
+    out.push_str(REPORT_CHOICES)?;
+    push_number(alloc, &mut out, choices.len() as u32)?;
     out.push_str(LINE_END)?;
+    push_choices(alloc, &mut out, choices)?;
     Ok(out)
+}
+
+fn push_choices(alloc: Global, out: &mut Text, choices: &[Choice]) -> Result<(), NoMemory>
+    ensures { OnOk result (out.new ≡ out.old ++ flat_map choice_line choices.now) }
+{
+    for choice in choices {
+        push_choice(alloc, out, choice)?;
+    }
+    Ok(())
+}
+
+fn push_choice(alloc: Global, out: &mut Text, choice: &Choice) -> Result<(), NoMemory>
+    ensures { OnOk result (out.new ≡ out.old ++ choice_line choice.now) }
+{
+    push_place(alloc, out, &choice.place)?;
+    out.push_str(BLANK)?;
+    out.push_str(kind_text(choice.kind))?;
+    out.push_str(BLANK)?;
+    out.push_str(choice.text.as_str())?;
+    out.push_str(LINE_END)
 }

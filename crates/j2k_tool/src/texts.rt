@@ -20,10 +20,6 @@ pub const SETTINGS: &str = "j2k.toml";
 
 pub const REPORT_FILE: &str = "j2k-report.txt";
 
-pub const REPORT_HEAD: &str = "j2k-report 1\nfiles 1\nchoices 1\n";
-
-pub const REPORT_COMPANION: &str = ".java:1:14 companion ";
-
 pub const DONE: &str = "converted: files 1, classes 1, choices 1\n";
 
 pub const USAGE: &str =
