@@ -1,3 +1,14 @@
 pub mod Convert
 pub mod JSpells
 pub mod KText
+pub mod Values
+pub mod Outcome
+pub mod Machine
+pub mod Program
+pub mod Library
+pub mod World
+pub mod Runs
+pub mod Java
+pub mod Static
+pub mod Kotlin
+pub mod SameSteps
