@@ -1,1 +1,5 @@
 mod Worked
+pub mod Calm
+pub mod RunLaws
+pub mod SameText
+pub mod Headline
