@@ -3,3 +3,4 @@ pub mod Calm
 pub mod RunLaws
 pub mod SameText
 pub mod Headline
+pub mod Depth

@@ -10,13 +10,13 @@ use Rattle.meanings.specs.declared.java.JStmt.{JStmt}
 use Rattle.meanings.specs.declared.java.JStmt.TheVariants.{Local, Print}
 use Rattle.meanings.specs.declared.java.JClass.{JClass}
 use Rattle.meanings.specs.Convert.{operand_of, expression_of, statement_of, class_of}
-use Rattle.meanings.specs.Values.{Name, same_name, Site, same_site, Value, Null, Integer, Boolean, Units, Class, Object, Array, Lambda, captured_list, Int, Step, Answer, Ready, Run, Mine, Failed, Done, Given, Raised, is_null, integer_in, narrowed}
+use Rattle.meanings.specs.Values.{Name, same_name, Site, same_site, Kind, Value, Null, Integer, Boolean, Units, Class, Object, Array, Lambda, captured_list, Int, Step, Answer, Ready, Run, Mine, Failed, Done, Given, Raised, is_null, integer_in, narrowed}
 use Rattle.meanings.specs.Outcome.{Locals, get, State, Exit, Jump, Outcome, Asks, Busy, Gives, Jumps, Meaning, then_do, pure, torn, ◌>>◌, ask_from, pay_from, assign_all}
 use Rattle.meanings.specs.Machine.{Place, Bodies, operated, received, print_line, returned, sequence}
 use Rattle.meanings.specs.Program.{Start, Enters, Runs, thread, thread_from, thread_at, turn, place, bodies, run_site}
-use Rattle.meanings.specs.Static.{KType, is_non_null, Static, declared, extended, main_static}
+use Rattle.meanings.specs.Static.{KType, type_of, is_non_null, Static, declared, extended, main_static}
 use Rattle.meanings.specs.Java.{java_expr, java_operand, java_stmt, main_site, java_program, JavaThread}
-use Rattle.meanings.specs.Kotlin.{used, kotlin_expr, kotlin_operand, kotlin_stmt, kotlin_stmts, kotlin_program, KotlinThread}
+use Rattle.meanings.specs.Kotlin.{used, operator_kind, kotlin_expr, kotlin_operand, kotlin_stmt, kotlin_stmts, kotlin_program, KotlinThread}
 
 -- ---- no value is null
 
@@ -77,9 +77,15 @@ kotlin_operand_is : (p : Place) (static : Static) (a : JOperand) (s : State) →
 kotlin_operand_is p static (LocalName name) s h = used_is (declared static name) (get s.locals name) s (get_given s.locals name h)
 kotlin_operand_is p static (Number n) s h = refl
 
+operator_is_int : (type : Option KType) → operator_kind type ≡ Int
+operator_is_int None = refl
+operator_is_int (Some type) = refl
+
 kotlin_expr_is : (p : Place) (static : Static) (e : JExpr) (s : State) → LocalsGiven s.locals → kotlin_expr p static (expression_of e) s ≡ Gives (value s.locals e) s
 kotlin_expr_is p static (Operand a) s h = kotlin_operand_is p static a s h
-kotlin_expr_is p static (Binary a operator b) s h = rw (kotlin_operand_is p static a s h, kotlin_operand_is p static b s h) refl
+kotlin_expr_is p static (Binary a operator b) s h =
+    rw (kotlin_operand_is p static a s h, kotlin_operand_is p static b s h)
+    (ap (λ (kind : Kind). Gives (Integer kind (narrowed kind (operated operator (integer_in (operand_value s.locals a)) (integer_in (operand_value s.locals b))))) s) (operator_is_int (type_of static (expression_of (Binary a operator b)))))
 
 -- ---- statements
 

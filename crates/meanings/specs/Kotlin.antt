@@ -7,12 +7,12 @@ use Rattle.meanings.specs.declared.kotlin.KExpr.TheVariants.{Operand, Binary}
 use Rattle.meanings.specs.declared.kotlin.KStmt.{KStmt}
 use Rattle.meanings.specs.declared.kotlin.KStmt.TheVariants.{Val, Print}
 use Rattle.meanings.specs.declared.kotlin.KClass.{KClass}
-use Rattle.meanings.specs.Values.{Value, Integer, Int, is_null, Answer}
+use Rattle.meanings.specs.Values.{Kind, Value, Integer, Int, is_null, Answer}
 use Rattle.meanings.specs.Outcome.{Meaning, pure, ◌>>=◌, ◌>>◌, torn, local, assign}
 use Rattle.meanings.specs.Machine.{Place, print_line, arithmetic, binary}
 use Rattle.meanings.specs.Program.{Body, Program, Start, Turn, thread, is_library_error}
 use Rattle.meanings.specs.Java.{main_site}
-use Rattle.meanings.specs.Static.{KType, is_non_null, Static, declared, extended, main_static}
+use Rattle.meanings.specs.Static.{KType, is_non_null, Static, declared, type_of, extended, main_static}
 
 -- A value at a use: null at a place of a non-null type is Torn (own rule). Where no type is known nothing is.
 abbrev pub used : Option KType → Value → Meaning Value
@@ -24,10 +24,16 @@ abbrev pub kotlin_operand : Place → Static → KOperand → Meaning Value
 kotlin_operand p static (Local name) = local name >>= used (declared static name)
 kotlin_operand p static (Number n) = pure (Integer Int (pos n))
 
--- `plus`, `minus` and `times` of Int (Kotlin, class Int: the low 32 bits)
+-- the class whose operator is meant, by the type of the whole (Kotlin, "Overload resolution"); this form has that of Int alone
+abbrev pub operator_kind : Option KType → Kind
+operator_kind None = Int
+operator_kind (Some type) = Int
+
+-- `plus`, `minus` and `times` (Kotlin, class Int: the low 32 bits)
 abbrev pub kotlin_expr : Place → Static → KExpr → Meaning Value
 kotlin_expr p static (Operand a) = kotlin_operand p static a
-kotlin_expr p static (Binary a operator b) = binary (arithmetic Int operator) (kotlin_operand p static a) (kotlin_operand p static b)
+kotlin_expr p static (Binary a operator b) =
+    binary (arithmetic (operator_kind (type_of static (Binary a operator b))) operator) (kotlin_operand p static a) (kotlin_operand p static b)
 
 -- a property declaration (Kotlin, "Local property declaration"); a call of `println`
 abbrev pub kotlin_stmt : Place → Static → KStmt → Meaning (Unit {0})

@@ -24,9 +24,12 @@ pub record Input : Type 0 where
   pub arguments : List (List ℕ)
   pub bytes : List ℕ
 
--- The recorded names: where a class, field or method of Java is found in Kotlin. In this form each keeps its name (own rule).
+-- The recorded names: the name in Kotlin of a method of a class. A class and a field keep theirs, and in this form a method does (own rule).
+abbrev pub Renames : JClass → Name → Name → Name
+Renames java class method = method
+
 abbrev pub renamed : JClass → Entry → Entry
-renamed java entry = entry
+renamed java entry = record { class = entry.class; method = Renames java entry.class entry.method }
 
 -- the arguments stand in an array of Strings, the first object on the heap
 abbrev pub arguments_value : Input → Value
