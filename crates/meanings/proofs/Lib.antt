@@ -4,3 +4,5 @@ pub mod RunLaws
 pub mod SameText
 pub mod Headline
 pub mod Depth
+pub mod SameValues
+pub mod Answers

@@ -12,3 +12,4 @@ pub mod Java
 pub mod Static
 pub mod Kotlin
 pub mod SameSteps
+pub mod Laws

@@ -1,5 +1,5 @@
 -- Values, the steps that a thread asks of the world, and their answers.
-use Rattle.std.specs.Prelude.{ℕ, ℤ, pos, nat_abs, Bool, true, false, ◌==◌, ◌&&◌, List, [], ◌∷◌, ◌++◌, int_le, codes}
+use Rattle.std.specs.Prelude.{ℕ, ℤ, pos, negsuc, nat_abs, Bool, true, false, ◌==◌, ◌&&◌, List, [], ◌∷◌, ◌++◌, codes}
 use Rattle.std.specs.Int.{Width, w8, w16, w32, w64, int_wrap, int_rem_euclid}
 use Rattle.std.specs.Fmt.{signed_decimal}
 
@@ -89,7 +89,9 @@ kind_number Int = 3
 kind_number Long = 4
 
 abbrev pub same_integer : ℤ → ℤ → Bool
-same_integer x y = int_le x y && int_le y x
+same_integer (pos m) (pos n) = m == n
+same_integer (negsuc m) (negsuc n) = m == n
+same_integer _ _ = false
 
 abbrev pub same_elements : Elements → Elements → Bool
 same_elements (Integers k) (Integers l) = kind_number k == kind_number l
