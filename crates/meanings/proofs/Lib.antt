@@ -4,5 +4,7 @@ pub mod RunLaws
 pub mod SameText
 pub mod Headline
 pub mod Depth
+pub mod FormDepth
 pub mod SameValues
 pub mod Answers
+pub mod Whole
