@@ -1,4 +1,5 @@
 mod Worked
+mod WorkedMachine
 pub mod Calm
 pub mod RunLaws
 pub mod SameText

@@ -1,6 +1,7 @@
 -- The tests of equality decide equality.
-use Rattle.std.proofs.Common.{◌≡◌, ℕ, ℤ, pos, negsuc, Bool, true, false, ◌&&◌, ◌==◌, List, [], ◌∷◌, refl, ap, ◌∙◌}
+use Rattle.std.proofs.Common.{◌≡◌, ℕ, ℤ, pos, negsuc, Bool, true, false, ◌&&◌, ◌==◌, List, [], ◌∷◌, refl, ap, ◌∙◌, subst}
 use Rattle.std.proofs.lemmas.Bool.{eq-eqb, eqb-true}
+use Rattle.meanings.specs.Laws.{SameIsEqual}
 use Rattle.meanings.specs.Values.{Name, same_name, same_flag, Site, same_site, Kind, Byte, Short, Char, Int, Long, kind_number, same_integer, Elements, Integers, Booleans, Objects, Arrays, same_elements, Value, Null, Integer, Boolean, Units, Class, Object, Array, Lambda, Captured, NoMore, Capture, same_value, same_captured}
 
 both : (a b : Bool) → (a && b) ≡ true → (a ≡ true) × (b ≡ true)
@@ -132,3 +133,6 @@ mutual
   same_captured_self : (xs : Captured) → same_captured xs xs ≡ true
   same_captured_self NoMore = refl
   same_captured_self (Capture v xs) = and_true _ _ (same_value_self v) (same_captured_self xs)
+
+pub same_is_equal : SameIsEqual
+same_is_equal v w = (same_value_true v w, λ e. subst (λ (x : Value). same_value v x ≡ true) e (same_value_self v))
