@@ -9,3 +9,5 @@ pub mod FormDepth
 pub mod SameValues
 pub mod Answers
 pub mod Whole
+pub mod Typed
+pub mod Spelling

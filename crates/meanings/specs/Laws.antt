@@ -3,6 +3,9 @@ use Rattle.std.specs.Prelude.{◌≡◌, ◌↔◌, ℕ, zero, suc, ◌+◌, ◌
 use Rattle.meanings.specs.declared.java.JClass.{JClass}
 use Rattle.meanings.specs.declared.kotlin.KClass.{KClass}
 use Rattle.meanings.specs.Values.{Name, same_name, Field, Value, same_value, Step, Touch, InitEnd, Alloc, Put, PutStatic, PutElem, Enter, Exit, Print, ReadByte, Lib, Raise, Start as StartStep, End, Answer}
+use Rattle.meanings.specs.Convert.{class_of}
+use Rattle.meanings.specs.JTyped.{JTyped}
+use Rattle.meanings.specs.Static.{KTyped}
 use Rattle.meanings.specs.Program.{Program, Start, thread, thread_at}
 use Rattle.meanings.specs.World.{World, Hold, ClassState, IsReady, IsFailed, state_of, hold_of, answer}
 use Rattle.meanings.specs.Runs.{Item, Stepped, Blocked, WasBusy, HadEnded, Missing, Thread, Behavior, turn_of, run, world_after}
@@ -10,6 +13,12 @@ use Rattle.meanings.specs.Runs.{Item, Stepped, Blocked, WasBusy, HadEnded, Missi
 -- a value is the same as itself alone
 abbrev pub SameIsEqual : Type 0
 SameIsEqual = (v w : Value) → (same_value v w ≡ true) ↔ (v ≡ w)
+
+-- ---- typing
+
+-- the Kotlin of a well typed class is well typed
+abbrev pub TypesAreKept : Type 0
+TypesAreKept = (class : JClass) → JTyped class → KTyped (class_of class)
 
 -- ---- threads
 

@@ -13,3 +13,5 @@ pub mod Static
 pub mod Kotlin
 pub mod SameSteps
 pub mod Laws
+pub mod JTyped
+pub mod KSpells

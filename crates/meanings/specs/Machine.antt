@@ -1,8 +1,8 @@
 -- What the two languages share: class initialization, fields and elements, order, jumps, loops and calls.
-use Rattle.std.specs.Prelude.{ℕ, zero, suc, ℤ, pos, negsuc, ◌+ℤ◌, ◌-ℤ◌, ◌*ℤ◌, ◌||◌, Bool, true, false, List, [], ◌∷◌, Option, Some, None, if◌then◌else◌, nat_lt, codes}
+use Rattle.std.specs.Prelude.{ℕ, zero, suc, ℤ, pos, negsuc, ◌+ℤ◌, ◌-ℤ◌, ◌*ℤ◌, Bool, true, false, List, [], ◌∷◌, Option, Some, None, if◌then◌else◌, nat_lt, codes}
 use Rattle.meanings.specs.declared.operators.Operator.{Operator}
 use Rattle.meanings.specs.declared.operators.Operator.TheVariants.{Plus, Minus, Times}
-use Rattle.meanings.specs.Values.{Name, same_name, Field, Site, Kind, Value, Null, Integer, Array, Captured, Step, Touch, InitEnd, Get, Put, GetStatic, PutStatic, GetElem, PutElem, Print, Raise, Answer, Ready, Run, Mine, Failed, Done, Given, Raised, integer_in, is_true, is_null, class_in, narrowed, line_of}
+use Rattle.meanings.specs.Values.{Name, same_name, is_among, Field, Site, Kind, Value, Null, Integer, Array, Captured, Step, Touch, InitEnd, Get, Put, GetStatic, PutStatic, GetElem, PutElem, Print, Raise, Answer, Ready, Run, Mine, Failed, Done, Given, Raised, integer_in, is_true, is_null, class_in, narrowed, line_of}
 use Rattle.meanings.specs.Outcome.{Locals, State, Exit, Break, Continue, Jump, Exits, Returns, Throws, Outcome, Asks, Busy, Gives, Jumps, Meaning, pure, ◌>>=◌, ◌>>◌, jump, ask, busy, pay}
 
 -- The bodies that a text enters: methods and constructors with their arguments, an instance's receiver first,
@@ -174,10 +174,6 @@ abbrev pub choose : {A : Type 0} → Meaning A → Meaning A → Value → Meani
 choose a b v = if is_true v then a else b
 
 -- ---- jumps
-
-abbrev pub is_among : List Name → Name → Bool
-is_among [] name = false
-is_among (label ∷ labels) name = same_name label name || is_among labels name
 
 -- no label means the innermost loop
 abbrev pub is_meant : List Name → Option Name → Bool

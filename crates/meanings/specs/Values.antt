@@ -1,5 +1,5 @@
 -- Values, the steps that a thread asks of the world, and their answers.
-use Rattle.std.specs.Prelude.{ℕ, ℤ, pos, negsuc, nat_abs, Bool, true, false, ◌==◌, ◌&&◌, List, [], ◌∷◌, ◌++◌, codes}
+use Rattle.std.specs.Prelude.{ℕ, ℤ, pos, negsuc, nat_abs, Bool, true, false, ◌==◌, ◌&&◌, if◌then◌else◌, List, [], ◌∷◌, ◌++◌, codes}
 use Rattle.std.specs.Int.{Width, w8, w16, w32, w64, int_wrap, int_rem_euclid}
 use Rattle.std.specs.Fmt.{signed_decimal}
 
@@ -14,6 +14,10 @@ abbrev pub same_name : Name → Name → Bool
 same_name [] [] = true
 same_name (b ∷ x) (c ∷ y) = (b == c) && same_name x y
 same_name _ _ = false
+
+abbrev pub is_among : List Name → Name → Bool
+is_among [] name = false
+is_among (first ∷ names) name = if same_name first name then true else is_among names name
 
 abbrev pub same_flag : Bool → Bool → Bool
 same_flag true b = b

@@ -6,7 +6,8 @@ ghost use Rattle.meanings.specs.Convert.{class_of};
 ghost use Rattle.meanings.specs.Java.{java_program};
 ghost use Rattle.meanings.specs.Kotlin.{kotlin_program};
 ghost use Rattle.meanings.specs.SameSteps.{SameSteps};
-ghost use Rattle.meanings.specs.Laws.{SameIsEqual, SameAtEveryDepth, EqualRuns, OnlyStepsChange, OneAnswer, ChangesOnlyWhatItSays, RunsGrow};
+ghost use Rattle.meanings.specs.Laws.{SameIsEqual, SameAtEveryDepth, EqualRuns, OnlyStepsChange, OneAnswer, ChangesOnlyWhatItSays, RunsGrow, TypesAreKept};
+ghost use Rattle.meanings.specs.KSpells.{SpellsOne};
 
 /// The Kotlin of a class makes exactly the steps of the class, in every run, and Torn never comes.
 pub fn same_steps()
@@ -49,5 +50,17 @@ pub fn runs_grow()
 /// The test by which the world tells values apart is their equality.
 pub fn same_is_equal()
     ensures { SameIsEqual }
+{
+}
+
+/// The Kotlin of a well typed class is well typed.
+pub fn types_are_kept()
+    ensures { TypesAreKept }
+{
+}
+
+/// Bytes spell at most one Kotlin tree.
+pub fn spells_one()
+    ensures { SpellsOne }
 {
 }
