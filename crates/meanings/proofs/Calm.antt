@@ -256,13 +256,8 @@ module _ {program : Program} (calm : CalmProgram program) where
   thread_from_calm : {b : Bodies} → CalmBodies b → (start : Start) → Calm (thread_from program b start)
   thread_from_calm {b = b} h (Enters site vs) = step_calm (touch_calm (outside program b) h site.class) (call_calm (outside program b) h site vs)
   thread_from_calm h (Runs (Lambda site k captured)) = apart_calm (h.lambda site _ [])
-  thread_from_calm {b = b} h (Runs (Object class k)) = call_calm (outside program b) h _ _
   thread_from_calm h (Runs Null) = pure_calm Null
-  thread_from_calm h (Runs (Integer kind z)) = pure_calm Null
-  thread_from_calm h (Runs (Boolean flag)) = pure_calm Null
-  thread_from_calm h (Runs (Units units)) = pure_calm Null
-  thread_from_calm h (Runs (Class class)) = pure_calm Null
-  thread_from_calm h (Runs (Array elements size k)) = pure_calm Null
+  thread_from_calm {b = b} h (Runs object) = call_calm (outside program b) h _ _
 
   at_end_calm : (xs : List Answer) (p : Step) → p ≢ Torn → at_end xs p ≢ Next Torn
   at_end_calm [] p h = λ e. h (cc)

@@ -319,13 +319,8 @@ module _ {program : Program} (texts : WithinProgram program) where
   from_within : (w : ℕ) {b b' : Bodies} → WithinBodies w b b' → (start : Start) → Within w (thread_from program b start) (thread_from program b' start)
   from_within w {b} h (Enters site vs) = step_within (touch_within (outside program b) h site.class) (apart_within (h.method site vs))
   from_within w h (Runs (Lambda site k captured)) = apart_within (h.lambda site (captured_list captured) [])
-  from_within w h (Runs (Object class k)) = apart_within (h.method (program.resolves run_site class) (Object class k ∷ []))
   from_within w h (Runs Null) = pure_within Null
-  from_within w h (Runs (Integer kind z)) = pure_within Null
-  from_within w h (Runs (Boolean flag)) = pure_within Null
-  from_within w h (Runs (Units units)) = pure_within Null
-  from_within w h (Runs (Class class)) = pure_within Null
-  from_within w h (Runs (Array elements size k)) = pure_within Null
+  from_within w h (Runs object) = apart_within (h.method (program.resolves run_site (class_in object)) (object ∷ []))
 
   same_outcome : {u : ℕ} {A : Type 0} {o o' : Outcome A} → AtMost u o o' → o ≡ o'
   same_outcome (asks p) = refl

@@ -17,7 +17,7 @@ use Rattle.meanings.specs.World.{World, Reply, answer}
 use Rattle.meanings.specs.Runs.{Item, Thread, Behavior, After, runnable_of, begun, with_new, replied, turned, turn_of, run, NeverTorn}
 use Rattle.meanings.specs.Java.{java_operand, java_expr, java_stmt, main_site, java_program, JavaThread}
 use Rattle.meanings.specs.Kotlin.{KotlinThread}
-use Rattle.meanings.specs.SameSteps.{Entry, IsEntry, Input, renamed, arguments_value, first_world, first_threads, JavaRun, KotlinRun, SameSteps}
+use Rattle.meanings.specs.SameSteps.{Entry, Entries, Input, renamed, arguments_value, first_world, first_threads, JavaRun, KotlinRun, SameSteps}
 use Rattle.meanings.proofs.Calm.{Calm, CalmBodies, CalmText, CalmProgram, AllCalm, none, more, bind_calm, pure_calm, local_calm, assign_calm, arithmetic_calm, binary_calm, print_line_calm, sequence_calm, thread_calm}
 use Rattle.meanings.proofs.RunLaws.{Kept, run_same, run_never_torn}
 use Rattle.meanings.proofs.SameText.{IsGiven, thread_same}

@@ -168,13 +168,8 @@ module _ (class : JClass) where
   from_same : (d : ℕ) (start : Start) → IsGiven start → (s : State) → thread_from (kotlin_program (class_of class)) (bodies (kotlin_program (class_of class)) d) start s ≡ thread_from (java_program class) (bodies (java_program class) d) start s
   from_same d (Enters site vs) given s = ap (returned s.locals) (method_same d site vs given (record s { locals = [] }) tt)
   from_same d (Runs (Lambda site k captured)) given s = ap (λ (m : Meaning (Unit {0})). returned s.locals (m (record s { locals = [] }))) (lambda_same d site (captured_list captured) [])
-  from_same d (Runs (Object name k)) given s = ap (returned s.locals) (method_same d run_site (Object name k ∷ []) (refl, tt) (record s { locals = [] }) tt)
   from_same d (Runs Null) given s = refl
-  from_same d (Runs (Integer kind z)) given s = refl
-  from_same d (Runs (Boolean flag)) given s = refl
-  from_same d (Runs (Units units)) given s = refl
-  from_same d (Runs (Class name)) given s = refl
-  from_same d (Runs (Array elements size k)) given s = refl
+  from_same d (Runs object) given s = ap (returned s.locals) (method_same d run_site (object ∷ []) (refl, tt) (record s { locals = [] }) tt)
 
   pub thread_same : (start : Start) → IsGiven start → (answers : List Answer) (n : ℕ) → KotlinThread (class_of class) start answers n ≡ JavaThread class start answers n
   thread_same start given answers n = ap turn (from_same (n + length answers) start given (record { locals = []; answers = answers; n = n }))

@@ -2,7 +2,7 @@
 use Rattle.std.proofs.Common.{◌≡◌, ℕ, ℤ, pos, negsuc, Bool, true, false, ◌&&◌, ◌==◌, List, [], ◌∷◌, refl, ap, ◌∙◌, subst}
 use Rattle.std.proofs.lemmas.Bool.{eq-eqb, eqb-true}
 use Rattle.meanings.specs.Laws.{SameIsEqual}
-use Rattle.meanings.specs.Values.{Name, same_name, same_flag, Site, same_site, Kind, Byte, Short, Char, Int, Long, kind_number, same_integer, Elements, Integers, Booleans, Objects, Arrays, same_elements, Value, Null, Integer, Boolean, Units, Class, Object, Array, Lambda, Captured, NoMore, Capture, same_value, same_captured}
+use Rattle.meanings.specs.Values.{Name, same_name, same_flag, Site, same_site, Kind, Byte, Short, Char, Int, Long, kind_number, same_integer, Elements, Integers, Booleans, Objects, Arrays, same_elements, Value, Null, Integer, Boolean, Units, Class, Companion, Object, Array, Lambda, Captured, NoMore, Capture, same_value, same_captured}
 
 both : (a b : Bool) → (a && b) ≡ true → (a ≡ true) × (b ≡ true)
 both true true e = (refl, refl)
@@ -93,6 +93,7 @@ mutual
   same_value_true (Boolean a) (Boolean b) e = ap Boolean (same_flag_true a b e)
   same_value_true (Units a) (Units b) e = ap Units (same_name_true a b e)
   same_value_true (Class c) (Class d) e = ap Class (same_name_true c d e)
+  same_value_true (Companion c) (Companion d) e = ap Companion (same_name_true c d e)
   same_value_true (Object c m) (Object d n) e =
       let h : (same_name c d ≡ true) × ((m == n) ≡ true) = both _ _ e in
       let names : c ≡ d = same_name_true c d h.0 in
@@ -126,6 +127,7 @@ mutual
   same_value_self (Boolean a) = same_flag_self a
   same_value_self (Units a) = same_name_self a
   same_value_self (Class c) = same_name_self c
+  same_value_self (Companion c) = same_name_self c
   same_value_self (Object c m) = and_true _ _ (same_name_self c) (eq-eqb m m refl)
   same_value_self (Array a k m) = and_true _ _ (and_true _ _ (same_elements_self a) (eq-eqb k k refl)) (eq-eqb m m refl)
   same_value_self (Lambda a m xs) = and_true _ _ (and_true _ _ (same_site_self a) (eq-eqb m m refl)) (same_captured_self xs)

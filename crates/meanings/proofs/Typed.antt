@@ -10,7 +10,7 @@ use Rattle.meanings.specs.declared.java.JStmt.TheVariants.{Local, Print}
 use Rattle.meanings.specs.declared.java.JClass.{JClass}
 use Rattle.meanings.specs.Convert.{operand_of, expression_of, statement_of, class_of}
 use Rattle.meanings.specs.Values.{Name, same_name, is_among}
-use Rattle.meanings.specs.Static.{KType, IntType, Static, declared, type_of, type_of_operand, type_of_binary, IsTyped, KTyped, main_static}
+use Rattle.meanings.specs.Static.{KType, IntType, Static, declared, with_local, type_of, type_of_operand, type_of_binary, IsTyped, KTyped, main_static}
 use Rattle.meanings.specs.JTyped.{KnowsOperand, Knows, AreTyped, JTyped}
 use Rattle.meanings.specs.Laws.{TypesAreKept}
 
@@ -27,7 +27,7 @@ hides : (b : Bool) (known : Bool) (o : Option KType) → (known ≡ false → o 
 hides true known o h e = cc
 hides false known o h e = h e
 
-fits_more : (locals : List Name) (static : Static) (name : Name) → Fits locals static → Fits (name ∷ locals) ((name, IntType) ∷ static)
+fits_more : (locals : List Name) (static : Static) (name : Name) → Fits locals static → Fits (name ∷ locals) (with_local static name IntType)
 fits_more locals static name h = record {
   known = λ other e. declares (same_name name other) (is_among locals other) (declared static other) (h.known other) e;
   unknown = λ other apart e. hides (same_name name other) (is_among locals other) (declared static other) (h.unknown other apart) e;
@@ -44,7 +44,7 @@ expression_typed locals static h (Binary a operator b) known = rw (operand_typed
 statements_typed : (locals : List Name) (static : Static) → Fits locals static → (body : List JStmt) → AreTyped locals body → IsTyped static (map statement_of body)
 statements_typed locals static h [] typed = tt
 statements_typed locals static h (Local name e ∷ body) typed =
-    (h.unknown name typed.0 typed.1, expression_typed locals static h e typed.2, statements_typed (name ∷ locals) ((name, IntType) ∷ static) (fits_more locals static name h) body typed.3)
+    (h.unknown name typed.0 typed.1, expression_typed locals static h e typed.2, statements_typed (name ∷ locals) (with_local static name IntType) (fits_more locals static name h) body typed.3)
 statements_typed locals static h (Print e ∷ body) typed = (expression_typed locals static h e typed.0, statements_typed locals static h body typed.1)
 
 pub types_are_kept : TypesAreKept

@@ -1,5 +1,5 @@
 -- Laws of whole runs.
-use Rattle.std.proofs.Common.{◌≡◌, ℕ, Bool, true, false, List, [], ◌∷◌, ◌++◌, Option, Some, None, slice_get, refl, sym, ap, ◌∙◌, subst, append_assoc}
+use Rattle.std.proofs.Common.{◌≡◌, ℕ, suc, Bool, true, false, List, [], ◌∷◌, ◌++◌, Option, Some, None, slice_get, refl, sym, ap, ◌∙◌, subst, append_assoc}
 use Rattle.std.proofs.lemmas.List.{append-nil}
 use Rattle.meanings.specs.Values.{Name, Step, Answer}
 use Rattle.meanings.specs.Program.{Turn, Next, IsBusy, Ended}
@@ -73,11 +73,12 @@ turn_grows next n w ts i None = record { output = sym (append-nil w.output); rea
 turn_grows next n w ts i (Some t) = turned_grows w ts i t (next t.start t.had n)
 
 pub runs_grow : RunsGrow
-runs_grow next n w ts [] = record { output = sym (append-nil w.output); ready = λ class h. h }
+runs_grow next n w ts [] = record { items = refl; output = sym (append-nil w.output); ready = λ class h. h }
 runs_grow next n w ts (i ∷ schedule) =
     let turn : TurnGrows w (turn_of next n w ts i (slice_get ts i)) = turn_grows next n w ts i (slice_get ts i) in
     let rest : Grows next n (turn_of next n w ts i (slice_get ts i)).world (turn_of next n w ts i (slice_get ts i)).threads schedule = runs_grow next n (turn_of next n w ts i (slice_get ts i)).world (turn_of next n w ts i (slice_get ts i)).threads schedule in
     record {
+      items = ap suc rest.items;
       output = rest.output ∙ ap (λ (units : List ℕ). units ++ all_printed (run next n (turn_of next n w ts i (slice_get ts i)).world (turn_of next n w ts i (slice_get ts i)).threads schedule)) turn.output
           ∙ append_assoc w.output (item_printed (turn_of next n w ts i (slice_get ts i)).item) (all_printed (run next n (turn_of next n w ts i (slice_get ts i)).world (turn_of next n w ts i (slice_get ts i)).threads schedule))
           ∙ ap (λ (units : List ℕ). w.output ++ units) (sym (all_printed_is (turn_of next n w ts i (slice_get ts i)).item (run next n (turn_of next n w ts i (slice_get ts i)).world (turn_of next n w ts i (slice_get ts i)).threads schedule)));

@@ -142,8 +142,9 @@ all_printed (WasBusy i ∷ items) = all_printed items
 all_printed (HadEnded i ∷ items) = all_printed items
 all_printed (Missing i ∷ items) = all_printed items
 
--- the output after a run is what its steps printed, in order; and a class that is ready stays so
+-- a run has one item a turn; the output after it is what its steps printed, in order; and a class that is ready stays so
 pub record Grows (next : Behavior) (n : ℕ) (w : World) (ts : List Thread) (schedule : List ℕ) : Type 0 where
+  pub items : length (run next n w ts schedule) ≡ length schedule
   pub output : (world_after next n w ts schedule).output ≡ w.output ++ all_printed (run next n w ts schedule)
   pub ready : (class : Name) → state_of w.classes class ≡ IsReady → state_of (world_after next n w ts schedule).classes class ≡ IsReady
 

@@ -2,7 +2,7 @@
 use Rattle.std.specs.Prelude.{ℕ, zero, suc, ℤ, pos, negsuc, ◌+ℤ◌, ◌-ℤ◌, ◌*ℤ◌, Bool, true, false, List, [], ◌∷◌, Option, Some, None, if◌then◌else◌, nat_lt, codes}
 use Rattle.meanings.specs.declared.operators.Operator.{Operator}
 use Rattle.meanings.specs.declared.operators.Operator.TheVariants.{Plus, Minus, Times}
-use Rattle.meanings.specs.Values.{Name, same_name, is_among, Field, Site, Kind, Value, Null, Integer, Array, Captured, Step, Touch, InitEnd, Get, Put, GetStatic, PutStatic, GetElem, PutElem, Print, Raise, Answer, Ready, Run, Mine, Failed, Done, Given, Raised, integer_in, is_true, is_null, class_in, narrowed, line_of}
+use Rattle.meanings.specs.Values.{Name, same_name, is_among, Field, Site, Kind, Value, Null, Integer, Array, Lambda, captured_list, Step, Touch, InitEnd, Get, Put, GetStatic, PutStatic, GetElem, PutElem, Print, Raise, Answer, Ready, Run, Mine, Failed, Done, Given, Raised, integer_in, is_true, is_null, class_in, narrowed, line_of}
 use Rattle.meanings.specs.Outcome.{Locals, State, Exit, Break, Continue, Jump, Exits, Returns, Throws, Outcome, Asks, Busy, Gives, Jumps, Meaning, pure, ◌>>=◌, ◌>>◌, jump, ask, busy, pay}
 
 -- The bodies that a text enters: methods and constructors with their arguments, an instance's receiver first,
@@ -64,15 +64,16 @@ apart m s = returned s.locals (m (record s { locals = [] }))
 abbrev pub call : Place → Site → List Value → Meaning Value
 call p site vs = apart (p.bodies.method site vs)
 
--- a call of the method that overrides it in the receiver's class (JLS 15.12.4.4)
-abbrev pub call_on : Place → Site → Value → List Value → Meaning Value
-call_on p site receiver vs = call p (p.resolves site (class_in receiver)) (receiver ∷ vs)
-
 abbrev pub construct : Place → Site → List Value → Meaning Value
 construct p site vs = apart (p.bodies.constructor site vs)
 
 abbrev pub call_lambda : Place → Site → List Value → List Value → Meaning Value
 call_lambda p site captured vs = apart (p.bodies.lambda site captured vs)
+
+-- a call on a receiver: a lambda's body (JLS 15.27.4), or the method that overrides this one in the receiver's class (JLS 15.12.4.4)
+abbrev pub call_on : Place → Site → Value → List Value → Meaning Value
+call_on p site (Lambda own k captured) vs = call_lambda p own (captured_list captured) vs
+call_on p site receiver vs = call p (p.resolves site (class_in receiver)) (receiver ∷ vs)
 
 -- ---- class initialization
 

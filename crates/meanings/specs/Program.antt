@@ -89,17 +89,11 @@ module _ (program : Program) where
     initializer = λ class. begin (bodies d) program.initializers class;
   }
 
-  -- An entry point touches its class, unless that is idle, and calls its method (JLS 12.1.3, 12.1.4); a new thread calls `run` (JLS 17).
+  -- An entry point touches its class, unless that is idle, and calls its method (JLS 12.1.3, 12.1.4); a new thread calls `run` of its object, if it has one (JLS 17).
   abbrev pub thread_from : Bodies → Start → Meaning Value
   thread_from b (Enters site vs) = touch (outside b) site.class >> call (outside b) site vs
-  thread_from b (Runs (Lambda site k captured)) = call_lambda (outside b) site (captured_list captured) []
-  thread_from b (Runs (Object class k)) = call_on (outside b) run_site (Object class k) []
   thread_from b (Runs Null) = pure Null
-  thread_from b (Runs (Integer kind z)) = pure Null
-  thread_from b (Runs (Boolean flag)) = pure Null
-  thread_from b (Runs (Units units)) = pure Null
-  thread_from b (Runs (Class class)) = pure Null
-  thread_from b (Runs (Array elements size k)) = pure Null
+  thread_from b (Runs object) = call_on (outside b) run_site object []
 
   -- the thread with the bodies to a depth
   abbrev pub thread_at : ℕ → Start → List Answer → ℕ → Turn

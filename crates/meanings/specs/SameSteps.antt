@@ -16,8 +16,8 @@ pub record Entry : Type 0 where
   pub method : Name
 
 -- `public static void main(String[])` of the class (JLS 12.1.4)
-abbrev pub IsEntry : JClass → Entry → Type 0
-IsEntry java entry = entry ≡ record { class = java.name; method = codes "main" }
+abbrev pub Entries : JClass → Entry → Type 0
+Entries java entry = entry ≡ record { class = java.name; method = codes "main" }
 
 -- the arguments, each the units of a String and none null, and the bytes of the standard input
 pub record Input : Type 0 where
@@ -61,5 +61,5 @@ KotlinRun kotlin entry input schedule n = run (KotlinThread kotlin) n (first_wor
 
 -- For every entry point, input, schedule and bound the Kotlin makes exactly the Java's steps under the recorded names, and Torn never comes.
 pub record SameSteps (java : JClass) (kotlin : KClass) : Type 0 where
-  pub same : (entry : Entry) → IsEntry java entry → (input : Input) (schedule : List ℕ) (n : ℕ) → KotlinRun kotlin (renamed java entry) input schedule n ≡ JavaRun java entry input schedule n
-  pub never_torn : (entry : Entry) → IsEntry java entry → (input : Input) (schedule : List ℕ) (n : ℕ) → NeverTorn (KotlinRun kotlin (renamed java entry) input schedule n)
+  pub same : (entry : Entry) → Entries java entry → (input : Input) (schedule : List ℕ) (n : ℕ) → KotlinRun kotlin (renamed java entry) input schedule n ≡ JavaRun java entry input schedule n
+  pub never_torn : (entry : Entry) → Entries java entry → (input : Input) (schedule : List ℕ) (n : ℕ) → NeverTorn (KotlinRun kotlin (renamed java entry) input schedule n)

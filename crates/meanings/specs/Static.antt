@@ -23,17 +23,23 @@ is_non_null IntType = true
 is_non_null StringType = true
 is_non_null (ArrayType type) = true
 
--- the declared types at a place, the newest declaration first
-abbrev pub Static : Type 0
-Static = List (Name × KType)
+-- what is known at a place: the declared types of the locals and parameters, the newest declaration first
+pub record Static : Type 0 where
+  pub locals : List (Name × KType)
+
+abbrev pub declared_in : List (Name × KType) → Name → Option KType
+declared_in [] name = None
+declared_in (e ∷ locals) name = if same_name e.0 name then Some e.1 else declared_in locals name
 
 abbrev pub declared : Static → Name → Option KType
-declared [] name = None
-declared (e ∷ static) name = if same_name e.0 name then Some e.1 else declared static name
+declared static name = declared_in static.locals name
+
+abbrev pub with_local : Static → Name → KType → Static
+with_local static name type = record static { locals = (name, type) ∷ static.locals }
 
 -- at the start of `fun main(args: Array<String>)`
 abbrev pub main_static : Static
-main_static = (codes "args", ArrayType StringType) ∷ []
+main_static = record { locals = (codes "args", ArrayType StringType) ∷ [] }
 
 abbrev pub type_of_operand : Static → KOperand → Option KType
 type_of_operand static (Local name) = declared static name
@@ -50,7 +56,7 @@ type_of static (Binary a operator b) = type_of_binary (type_of_operand static a)
 
 -- the declared types after a statement
 abbrev pub extended : Static → KStmt → Static
-extended static (Val name value) = (name, IntType) ∷ static
+extended static (Val name value) = with_local static name IntType
 extended static (Print value) = static
 
 -- ---- typing (own rule: the Kotlin profile's, in this form)

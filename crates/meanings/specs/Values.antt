@@ -69,6 +69,8 @@ mutual
     Units : List ℕ → Value
     -- a class as an object, `C.class` (JLS 15.8.2)
     Class : Name → Value
+    -- Kotlin's companion of a class as an object, which is no value of Java (own rule)
+    Companion : Name → Value
     Object : Name → ℕ → Value
     -- an array, with its length
     Array : Elements → ℕ → ℕ → Value
@@ -111,6 +113,7 @@ abbrev mutual
   same_value (Boolean a) (Boolean b) = same_flag a b
   same_value (Units a) (Units b) = same_name a b
   same_value (Class c) (Class d) = same_name c d
+  same_value (Companion c) (Companion d) = same_name c d
   same_value (Object c m) (Object d n) = same_name c d && (m == n)
   same_value (Array e k m) (Array f l n) = same_elements e f && (k == l) && (m == n)
   same_value (Lambda a m xs) (Lambda b n ys) = same_site a b && (m == n) && same_captured xs ys
@@ -215,6 +218,7 @@ text_of (Boolean true) = codes "true"
 text_of (Boolean false) = codes "false"
 text_of (Units units) = units
 text_of (Class name) = []
+text_of (Companion name) = []
 text_of (Object class k) = []
 text_of (Array elements length k) = []
 text_of (Lambda site k captured) = []

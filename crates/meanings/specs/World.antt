@@ -112,8 +112,12 @@ reference (AnArray elements size) k = Array elements size k
 reference (AnArrayOf elements vs) k = Array elements (length vs) k
 reference (ALambda site captured) k = Lambda site k captured
 
-abbrev pub made : World → Shape → World
-made w shape = record w { heap = w.heap ++ content_in shape ∷ [] }
+abbrev pub with_object : World → Content → World
+with_object w content = record w { heap = w.heap ++ content ∷ [] }
+
+-- an exception that the machine raises has the empty text as its message (own rule)
+abbrev pub exception_content : Content
+exception_content = record { fields = []; elements = Units [] ∷ [] }
 
 -- ---- monitors
 
@@ -151,7 +155,7 @@ ended_thread (t ∷ threads) (suc k) = t ∷ ended_thread threads k
 
 -- the new thread has the next number; a thread starts once
 abbrev pub start_answer : World → Value → Bool → Reply
-start_answer w v true = Some (made w (AnObject (codes "IllegalThreadStateException")), Raised (Object (codes "IllegalThreadStateException") (length w.heap)))
+start_answer w v true = Some (with_object w exception_content, Raised (Object (codes "IllegalThreadStateException") (length w.heap)))
 start_answer w v false = Some (record w { threads = w.threads ++ record { object = v; ended = false } ∷ [] }, Done)
 
 -- ---- input, and the library
@@ -170,7 +174,7 @@ library_answer w vs (Some row) = Some (record w { heap = (row w.heap vs).0 }, (r
 abbrev pub answer : World → ℕ → Step → Reply
 answer w thread (Touch class) = touch_answer w thread class (state_of w.classes class)
 answer w thread (InitEnd class well) = Some (record w { classes = ended_class w.classes thread class well (state_of w.classes class) }, Done)
-answer w thread (Alloc shape) = Some (made w shape, Given (reference shape (length w.heap)))
+answer w thread (Alloc shape) = Some (with_object w (content_in shape), Given (reference shape (length w.heap)))
 answer w thread (Built v) = Some (w, Done)
 answer w thread (Get v field) = Some (w, Given (stored_or_default w (content_of w v).fields field))
 answer w thread (Put v field new) = Some (with_fields w v ((field, new) ∷ (content_of w v).fields), Done)
@@ -183,7 +187,7 @@ answer w thread (Exit v) = Some (exited w thread v (hold_of w.monitors v).owner 
 answer w thread (Print units) = Some (record w { output = w.output ++ units }, Done)
 answer w thread ReadByte = read_answer w w.input
 answer w thread (Lib row vs) = library_answer w vs (slice_get library row)
-answer w thread (Raise class) = Some (made w (AnObject class), Given (Object class (length w.heap)))
+answer w thread (Raise class) = Some (with_object w exception_content, Given (Object class (length w.heap)))
 answer w thread (Start v) = start_answer w v (was_started w.threads v)
 answer w thread (Join v) = if is_running w.threads v then None else Some (w, Done)
 answer w thread (End ending) = Some (record w { threads = ended_thread w.threads thread }, Done)
