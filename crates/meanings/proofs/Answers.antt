@@ -1,9 +1,9 @@
 -- An answer changes nothing but what it says.
 use Rattle.std.proofs.Common.{◌≡◌, ◌≢◌, ℕ, zero, suc, ◌+◌, Bool, true, false, ◌==◌, List, [], ◌∷◌, ◌++◌, Option, Some, None, slice_get, if◌then◌else◌, refl, sym, ap, ◌∙◌, subst, arith, append-nil}
-use Rattle.meanings.specs.Values.{Name, same_name, Field, Value, same_value, Step, Touch, InitEnd, Alloc, Built, Get, Put, GetStatic, PutStatic, GetElem, PutElem, Enter, Exit, Print, ReadByte, Lib, Raise, Start, Join, End, Torn, Answer}
+use Rattle.meanings.specs.Values.{Name, same_name, Value, same_value, Step, Touch, InitEnd, Alloc, Built, Get, Put, GetStatic, PutStatic, GetElem, PutElem, Enter, Exit, Print, ReadByte, Lib, Raise, Start, Join, End, Torn, Answer}
 use Rattle.meanings.specs.Library.{Row, library}
 use Rattle.meanings.specs.World.{World, Hold, Reply, ClassState, Untouched, Running, IsReady, IsFailed, state_of, touch_answer, ended_class, hold_of, with_hold, enter_answer, exited, was_started, is_running, start_answer, read_answer, library_answer, answer}
-use Rattle.meanings.specs.Laws.{printed, rest_of, left, statics_after, changes_heap, changes_threads, names_class, count_of, entries, owned, exits, Answered}
+use Rattle.meanings.specs.Laws.{printed, left, statics_after, changes_heap, changes_threads, names_class, count_of, entries, owned, exits, Answered}
 use Rattle.meanings.proofs.SameValues.{same_name_true, same_value_true}
 
 -- of the world after, where the step isn't blocked

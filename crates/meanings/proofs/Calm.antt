@@ -1,11 +1,11 @@
 -- A program whose texts never ask Torn has threads that never ask it.
-use Rattle.std.proofs.Common.{◌≡◌, ◌≢◌, ℕ, zero, suc, ◌+◌, ℤ, pos, negsuc, Bool, true, false, List, [], ◌∷◌, ◌++◌, length, if◌then◌else◌}
-use Rattle.std.specs.Prelude.{nat_lt, codes}
+use Rattle.std.proofs.Common.{◌≢◌, ℕ, zero, suc, ◌+◌, ℤ, pos, negsuc, Bool, true, false, List, [], ◌∷◌, ◌++◌, length, if◌then◌else◌}
+use Rattle.std.specs.Prelude.{nat_lt}
 use Rattle.meanings.specs.declared.operators.Operator.{Operator}
-use Rattle.meanings.specs.Values.{Name, same_name, Field, Site, same_site, Kind, Value, Null, Integer, Boolean, Units, Class, Object, Array, Lambda, Step, Touch, InitEnd, Get, Put, GetStatic, PutStatic, GetElem, PutElem, Print, Raise, End, Result, Uncaught, Torn, Answer, Ready, Run, Mine, Failed, Done, Given, Raised, integer_in, is_true, is_null, class_in}
+use Rattle.meanings.specs.Values.{Name, same_name, Field, Site, same_site, Kind, Value, Null, Lambda, Step, Touch, InitEnd, Get, Put, GetElem, PutElem, Print, Raise, Torn, Answer, Ready, Run, Mine, Failed, Done, Given, Raised, integer_in, is_true, is_null, class_in}
 use Rattle.meanings.specs.Outcome.{State, Exit, Jump, Exits, Returns, Throws, Outcome, Asks, Busy, Gives, Jumps, Meaning, then_do, pure, ◌>>=◌, ◌>>◌, jump, ask, ask_from, busy, pay, pay_from, local, assign, assign_all}
-use Rattle.meanings.specs.Machine.{Bodies, Place, received, ask_value, ask_done, raise, returned, apart, call, fail, init_end, initialize, touched, touch, check_null, get_field, put_field, length_in, index_in, get_element, put_element, print_line, arithmetic, binary, all, sequence, choose, caught_exit, caught, catch, once, turns, loop, handled, try, is_break, is_continue, is_either, construct, call_lambda, call_on}
-use Rattle.meanings.specs.Program.{Body, Initializer, Program, Start, Enters, Runs, Turn, Next, at_end, turn, place, outside, enter, begin, bodies, thread_from, thread_at, thread, run_site}
+use Rattle.meanings.specs.Machine.{Bodies, Place, received, ask_value, ask_done, raise, returned, apart, call, fail, init_end, initialize, touched, touch, check_null, get_field, put_field, length_in, index_in, get_element, put_element, print_line, arithmetic, binary, all, sequence, choose, caught_exit, caught, catch, turns, loop, handled, try, is_break, is_continue}
+use Rattle.meanings.specs.Program.{Body, Initializer, Program, Start, Enters, Runs, Next, at_end, turn, place, outside, enter, begin, bodies, thread_from, thread_at, thread}
 
 abbrev pub CalmOutcome : {A : Type 0} → Outcome A → Type 0
 CalmOutcome (Asks p) = p ≢ Torn

@@ -1,10 +1,10 @@
 -- The depth n + length answers is never used up: any larger one gives the same thread.
-use Rattle.std.proofs.Common.{◌≡◌, ℕ, zero, suc, ◌+◌, ◌≤◌, ℤ, pos, negsuc, Bool, true, false, List, [], ◌∷◌, ◌++◌, length, refl, sym, ap, arith, if◌then◌else◌}
+use Rattle.std.proofs.Common.{◌≡◌, ℕ, zero, suc, ◌+◌, ◌≤◌, ℤ, pos, negsuc, Bool, true, false, List, [], ◌∷◌, ◌++◌, length, refl, ap, arith, if◌then◌else◌}
 use Rattle.std.specs.Prelude.{nat_lt}
 use Rattle.meanings.specs.declared.operators.Operator.{Operator}
-use Rattle.meanings.specs.Values.{Name, same_name, Field, Site, same_site, Kind, Value, Null, Integer, Boolean, Units, Class, Object, Array, Lambda, captured_list, Step, Touch, InitEnd, Get, Put, GetElem, PutElem, Print, Raise, Answer, Ready, Run, Mine, Failed, Done, Given, Raised, integer_in, is_true, is_null, class_in}
+use Rattle.meanings.specs.Values.{Name, same_name, Field, Site, same_site, Kind, Value, Null, Lambda, captured_list, Step, Touch, InitEnd, Get, Put, GetElem, PutElem, Raise, Answer, Ready, Run, Mine, Failed, Done, Given, Raised, integer_in, is_true, is_null, class_in}
 use Rattle.meanings.specs.Outcome.{Locals, State, Exit, Jump, Exits, Returns, Throws, Outcome, Asks, Busy, Gives, Jumps, Meaning, then_do, pure, ◌>>=◌, ◌>>◌, jump, ask, ask_from, busy, pay, pay_from, local, assign, assign_all}
-use Rattle.meanings.specs.Machine.{Bodies, Place, received, ask_value, ask_done, raise, returned, apart, call, fail, init_end, initialize, touched, touch, check_null, get_field, put_field, length_in, index_in, get_element, put_element, print_line, arithmetic, binary, all, sequence, choose, caught_exit, caught, catch, turns, loop, handled, try, is_break, is_continue}
+use Rattle.meanings.specs.Machine.{Bodies, Place, received, ask_value, ask_done, raise, returned, apart, fail, init_end, touched, touch, check_null, get_field, put_field, length_in, index_in, get_element, put_element, print_line, arithmetic, binary, all, sequence, choose, caught_exit, caught, catch, turns, loop, handled, try, is_break, is_continue}
 use Rattle.meanings.specs.Program.{Body, Initializer, Program, Start, Enters, Runs, turn, place, outside, enter, begin, bodies, thread_from, thread_at, thread, run_site}
 
 -- how many bodies may still be entered from here

@@ -1,5 +1,5 @@
 -- The texts of this form enter no body, so every larger depth gives the same thread in both languages.
-use Rattle.std.proofs.Common.{◌≡◌, ℕ, ◌+◌, ◌≤◌, List, [], ◌∷◌, map}
+use Rattle.std.proofs.Common.{ℕ, List, [], ◌∷◌, map}
 use Rattle.meanings.specs.declared.java.JOperand.{JOperand}
 use Rattle.meanings.specs.declared.java.JOperand.TheVariants.{Local as LocalName, Number}
 use Rattle.meanings.specs.declared.java.JExpr.{JExpr}
@@ -15,15 +15,15 @@ use Rattle.meanings.specs.declared.kotlin.KStmt.{KStmt}
 use Rattle.meanings.specs.declared.kotlin.KStmt.TheVariants as ks
 use Rattle.meanings.specs.declared.kotlin.KClass.{KClass}
 use Rattle.meanings.specs.Values.{Value, is_null}
-use Rattle.meanings.specs.Outcome.{Outcome, Asks, Meaning, torn}
+use Rattle.meanings.specs.Outcome.{torn}
 use Rattle.meanings.specs.Values.{Torn}
-use Rattle.meanings.specs.Machine.{Place, Bodies}
+use Rattle.meanings.specs.Machine.{Place}
 use Rattle.meanings.specs.Static.{KType, is_non_null, Static, declared, extended}
 use Rattle.meanings.specs.Java.{java_operand, java_expr, java_stmt, java_program}
 use Rattle.meanings.specs.Kotlin.{used, kotlin_operand, kotlin_expr, kotlin_stmt, kotlin_stmts, kotlin_program}
 use Rattle.std.specs.Prelude.{Option, Some, None, ◌&&◌}
 use Rattle.meanings.specs.Laws.{SameAtEveryDepth}
-use Rattle.meanings.proofs.Depth.{asks, Within, WithinBodies, with_bodies, AllWithin, none, more, bind_within, step_within, pure_within, local_within, assign_within, if_within, print_line_within, arithmetic_within, binary_within, sequence_within, WithinProgram, deeper}
+use Rattle.meanings.proofs.Depth.{asks, Within, with_bodies, AllWithin, none, more, bind_within, step_within, pure_within, local_within, assign_within, if_within, print_line_within, arithmetic_within, binary_within, sequence_within, WithinProgram, deeper}
 
 -- ---- Java
 

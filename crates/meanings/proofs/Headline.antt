@@ -1,5 +1,5 @@
 -- The headline's theorem: the Kotlin of a class makes the steps of the class, in every run.
-use Rattle.std.proofs.Common.{◌≡◌, ◌≢◌, ℕ, zero, suc, Bool, true, false, ◌&&◌, List, [], ◌∷◌, ◌++◌, map, Option, Some, None, slice_get, slice_set, if◌then◌else◌, refl, sym, ap, ◌∙◌, subst}
+use Rattle.std.proofs.Common.{◌≡◌, ◌≢◌, ℕ, zero, suc, Bool, true, false, ◌&&◌, List, [], ◌∷◌, ◌++◌, map, Option, Some, None, slice_get, slice_set, if◌then◌else◌, refl, sym, ◌∙◌, subst}
 use Rattle.std.specs.Prelude.{codes}
 use Rattle.meanings.specs.declared.java.JOperand.{JOperand}
 use Rattle.meanings.specs.declared.java.JOperand.TheVariants.{Local as LocalName, Number}
@@ -10,15 +10,14 @@ use Rattle.meanings.specs.declared.java.JStmt.TheVariants.{Local, Print}
 use Rattle.meanings.specs.declared.java.JClass.{JClass}
 use Rattle.meanings.specs.Convert.{class_of}
 use Rattle.meanings.specs.Values.{Name, same_name, Value, Step, Touch, InitEnd, Alloc, Built, Get, Put, GetStatic, PutStatic, GetElem, PutElem, Enter, Exit, Print as PrintStep, ReadByte, Lib, Raise, Start as StartStep, Join, End, Torn, Answer, Ready, Run, Mine, Failed, Done, Given, Raised}
-use Rattle.meanings.specs.Outcome.{Meaning}
 use Rattle.meanings.specs.Machine.{Place}
-use Rattle.meanings.specs.Program.{Start, Enters, Runs, Turn, Next, IsBusy, Ended}
+use Rattle.meanings.specs.Program.{Start, Enters, Turn, Next, IsBusy, Ended}
 use Rattle.meanings.specs.World.{World, Reply, answer}
-use Rattle.meanings.specs.Runs.{Item, Thread, Behavior, After, runnable_of, begun, with_new, replied, turned, turn_of, run, NeverTorn}
+use Rattle.meanings.specs.Runs.{Thread, Behavior, begun, with_new, replied, turned, turn_of, run, NeverTorn}
 use Rattle.meanings.specs.Java.{java_operand, java_expr, java_stmt, main_site, java_program, JavaThread}
 use Rattle.meanings.specs.Kotlin.{KotlinThread}
-use Rattle.meanings.specs.SameSteps.{Entry, Entries, Input, renamed, arguments_value, first_world, first_threads, JavaRun, KotlinRun, SameSteps}
-use Rattle.meanings.proofs.Calm.{Calm, CalmBodies, CalmText, CalmProgram, AllCalm, none, more, bind_calm, pure_calm, local_calm, assign_calm, arithmetic_calm, binary_calm, print_line_calm, sequence_calm, thread_calm}
+use Rattle.meanings.specs.SameSteps.{Input, arguments_value, first_world, first_threads, SameSteps}
+use Rattle.meanings.proofs.Calm.{Calm, CalmProgram, AllCalm, none, more, bind_calm, pure_calm, local_calm, assign_calm, arithmetic_calm, binary_calm, print_line_calm, sequence_calm, thread_calm}
 use Rattle.meanings.proofs.RunLaws.{Kept, run_same, run_never_torn}
 use Rattle.meanings.proofs.SameText.{IsGiven, thread_same}
 

@@ -1,9 +1,9 @@
 -- Equal threads give equal runs, under an invariant that each turn keeps.
-use Rattle.std.proofs.Common.{◌≡◌, ◌≢◌, ℕ, zero, suc, List, [], ◌∷◌, ◌++◌, Option, Some, None, slice_get, refl, sym, ap, ◌∙◌, subst}
-use Rattle.meanings.specs.Values.{Step, Torn, Answer}
+use Rattle.std.proofs.Common.{◌≡◌, ◌≢◌, ℕ, List, [], ◌∷◌, Option, Some, None, slice_get, refl, ap, ◌∙◌}
+use Rattle.meanings.specs.Values.{Step, Torn}
 use Rattle.meanings.specs.Program.{Start, Turn, Next, IsBusy, Ended}
 use Rattle.meanings.specs.World.{World, Reply, answer}
-use Rattle.meanings.specs.Runs.{Item, Stepped, Blocked, Thread, Behavior, After, replied, turned, turn_of, run, IsTorn, NeverTorn}
+use Rattle.meanings.specs.Runs.{Thread, Behavior, After, replied, turned, turn_of, run, IsTorn, NeverTorn}
 
 -- What holds of the world and the threads, and is kept by each turn of one behaviour.
 pub record Kept (next : Behavior) (n : ℕ) (Holds : World → List Thread → Type 0) : Type 0 where

@@ -1,7 +1,6 @@
 -- The text of a class of this form does in Kotlin what it does in Java.
-use Rattle.std.proofs.Common.{◌≡◌, ◌≢◌, ℕ, zero, suc, ◌+◌, pos, Bool, true, false, ◌&&◌, List, [], ◌∷◌, ◌++◌, map, length, Option, Some, None, if◌then◌else◌, refl, sym, ap, ◌∙◌, subst}
+use Rattle.std.proofs.Common.{◌≡◌, ℕ, zero, suc, ◌+◌, pos, Bool, true, false, ◌&&◌, List, [], ◌∷◌, map, length, Option, Some, None, if◌then◌else◌, refl, ap}
 use Rattle.std.specs.Prelude.{codes}
-use Rattle.meanings.specs.declared.operators.Operator.{Operator}
 use Rattle.meanings.specs.declared.java.JOperand.{JOperand}
 use Rattle.meanings.specs.declared.java.JOperand.TheVariants.{Local as LocalName, Number}
 use Rattle.meanings.specs.declared.java.JExpr.{JExpr}
@@ -10,13 +9,13 @@ use Rattle.meanings.specs.declared.java.JStmt.{JStmt}
 use Rattle.meanings.specs.declared.java.JStmt.TheVariants.{Local, Print}
 use Rattle.meanings.specs.declared.java.JClass.{JClass}
 use Rattle.meanings.specs.Convert.{operand_of, expression_of, statement_of, class_of}
-use Rattle.meanings.specs.Values.{Name, same_name, Site, same_site, Kind, Value, Null, Integer, Boolean, Units, Class, Object, Array, Lambda, captured_list, Int, Step, Answer, Ready, Run, Mine, Failed, Done, Given, Raised, is_null, integer_in, narrowed}
-use Rattle.meanings.specs.Outcome.{Locals, get, State, Exit, Jump, Outcome, Asks, Busy, Gives, Jumps, Meaning, then_do, pure, torn, ◌>>◌, ask_from, pay_from, assign_all}
-use Rattle.meanings.specs.Machine.{Place, Bodies, operated, received, print_line, returned, sequence}
-use Rattle.meanings.specs.Program.{Start, Enters, Runs, thread, thread_from, thread_at, turn, place, bodies, run_site}
+use Rattle.meanings.specs.Values.{Name, same_name, Site, same_site, Kind, Value, Null, Integer, Lambda, captured_list, Int, Step, Answer, Ready, Run, Mine, Failed, Done, Given, Raised, is_null, integer_in, narrowed}
+use Rattle.meanings.specs.Outcome.{Locals, get, State, Outcome, Asks, Busy, Gives, Jumps, Meaning, then_do, pure, torn, ◌>>◌, ask_from, pay_from, assign_all}
+use Rattle.meanings.specs.Machine.{Place, operated, received, print_line, returned, sequence}
+use Rattle.meanings.specs.Program.{Start, Enters, Runs, thread_from, turn, place, bodies, run_site}
 use Rattle.meanings.specs.Static.{KType, type_of, is_non_null, Static, declared, extended, main_static}
 use Rattle.meanings.specs.Java.{java_expr, java_operand, java_stmt, main_site, java_program, JavaThread}
-use Rattle.meanings.specs.Kotlin.{used, operator_kind, kotlin_expr, kotlin_operand, kotlin_stmt, kotlin_stmts, kotlin_program, KotlinThread}
+use Rattle.meanings.specs.Kotlin.{used, operator_kind, kotlin_expr, kotlin_operand, kotlin_stmts, kotlin_program, KotlinThread}
 
 -- ---- no value is null
 

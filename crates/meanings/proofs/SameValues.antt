@@ -1,5 +1,5 @@
 -- The tests of equality decide equality.
-use Rattle.std.proofs.Common.{◌≡◌, ℕ, ℤ, pos, negsuc, Bool, true, false, ◌&&◌, ◌==◌, List, [], ◌∷◌, refl, ap, ◌∙◌, subst}
+use Rattle.std.proofs.Common.{◌≡◌, ℕ, ℤ, pos, negsuc, Bool, true, false, ◌&&◌, ◌==◌, [], ◌∷◌, refl, ap, ◌∙◌, subst}
 use Rattle.std.proofs.lemmas.Bool.{eq-eqb, eqb-true}
 use Rattle.meanings.specs.Laws.{SameIsEqual}
 use Rattle.meanings.specs.Values.{Name, same_name, same_flag, Site, same_site, Kind, Byte, Short, Char, Int, Long, kind_number, same_integer, Elements, Integers, Booleans, Objects, Arrays, same_elements, Value, Null, Integer, Boolean, Units, Class, Companion, Object, Array, Lambda, Captured, NoMore, Capture, same_value, same_captured}

@@ -1,5 +1,5 @@
 -- Bytes spell at most one Kotlin tree of this form.
-use Rattle.std.proofs.Common.{◌≡◌, ℕ, ◌+◌, ◌<◌, ◌≤◌, ◌^◌, ◌/◌, ◌%◌, Bool, true, false, ◌||◌, List, [], ◌∷◌, ◌++◌, refl, sym, ap, ◌∙◌, subst, arith, append_assoc}
+use Rattle.std.proofs.Common.{◌≡◌, ℕ, ◌+◌, ◌<◌, ◌^◌, ◌%◌, true, false, List, [], ◌∷◌, ◌++◌, refl, sym, ap, ◌∙◌, subst, arith, append_assoc}
 use Rattle.std.proofs.lemmas.List.{append_cancel_left}
 use Rattle.std.proofs.lemmas.Bool.{eq-eqb}
 use Rattle.std.proofs.lemmas.Bool.Decides.{nat_tests}
@@ -21,7 +21,7 @@ use Rattle.meanings.specs.declared.kotlin.KClass.{KClass}
 use Rattle.meanings.specs.JSpells.{operator_text}
 use Rattle.meanings.specs.KText.{operand_text, expression_text, statement_text, KText}
 use Rattle.meanings.specs.Values.{Name}
-use Rattle.meanings.specs.KSpells.{IsWord, IsIdentifier, IsOperand, IsExpression, AreStatements, KSpells, SpellsOne}
+use Rattle.meanings.specs.KSpells.{IsWord, IsIdentifier, IsOperand, IsExpression, AreStatements, SpellsOne}
 
 -- ---- words
 
@@ -201,7 +201,7 @@ statements_same (Print f ∷ main) (Val name k ∷ other) h g e = absurd (differ
 statements_same (Val x f ∷ main) (Val y k ∷ other) h g e =
     let names : (x ≡ y) × (KOTLIN_IS.now ++ (expression_text f ++ (10 ∷ body main)) ≡ KOTLIN_IS.now ++ (expression_text k ++ (10 ∷ body other))) =
     cut x y (KOTLIN_IS.now ++ (expression_text f ++ (10 ∷ body main))) (KOTLIN_IS.now ++ (expression_text k ++ (10 ∷ body other))) (identifier_is_word x h.0) (identifier_is_word y g.0) refl refl
-        (append_cancel_left KOTLIN_VAL.now _ _ (sym (val_text x f main) ∙ e ∙ val_text y k other)) in
+    (append_cancel_left KOTLIN_VAL.now _ _ (sym (val_text x f main) ∙ e ∙ val_text y k other)) in
     let values : (f ≡ k) × (body main ≡ body other) =
     expression_same 10 (body main) (body other) refl (differ 10 32 refl) f k h.1 g.1 (append_cancel_left KOTLIN_IS.now _ _ names.1) in
     let first : x ≡ y = names.0 in
@@ -229,6 +229,6 @@ pub spells_one : SpellsOne
 spells_one class other bytes h g =
     let names : (class.name ≡ other.name) × (KOTLIN_MAIN.now ++ body class.main ≡ KOTLIN_MAIN.now ++ body other.main) =
     cut class.name other.name (KOTLIN_MAIN.now ++ body class.main) (KOTLIN_MAIN.now ++ body other.main) (identifier_is_word class.name h.name) (identifier_is_word other.name g.name) refl refl
-        (append_cancel_left KOTLIN_CLASS.now _ _ (sym (class_text class) ∙ sym h.text ∙ g.text ∙ class_text other)) in
+    (append_cancel_left KOTLIN_CLASS.now _ _ (sym (class_text class) ∙ sym h.text ∙ g.text ∙ class_text other)) in
     let main : class.main ≡ other.main = statements_same class.main other.main h.main g.main (append_cancel_left KOTLIN_MAIN.now _ _ names.1) in
     ap (λ (x : Name). class_with x class.main) names.0 ∙ ap (λ (x : List KStmt). class_with other.name x) main

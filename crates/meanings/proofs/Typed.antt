@@ -1,5 +1,5 @@
 -- The Kotlin of a well typed class is well typed.
-use Rattle.std.proofs.Common.{◌≡◌, Bool, true, false, List, [], ◌∷◌, Option, Some, None, map, if◌then◌else◌, refl, sym, ap, ◌∙◌}
+use Rattle.std.proofs.Common.{◌≡◌, Bool, true, false, List, [], ◌∷◌, Option, Some, None, map, if◌then◌else◌, refl}
 use Rattle.std.specs.Prelude.{codes}
 use Rattle.meanings.specs.declared.java.JOperand.{JOperand}
 use Rattle.meanings.specs.declared.java.JOperand.TheVariants.{Local as LocalName, Number}
@@ -7,11 +7,10 @@ use Rattle.meanings.specs.declared.java.JExpr.{JExpr}
 use Rattle.meanings.specs.declared.java.JExpr.TheVariants.{Operand, Binary}
 use Rattle.meanings.specs.declared.java.JStmt.{JStmt}
 use Rattle.meanings.specs.declared.java.JStmt.TheVariants.{Local, Print}
-use Rattle.meanings.specs.declared.java.JClass.{JClass}
-use Rattle.meanings.specs.Convert.{operand_of, expression_of, statement_of, class_of}
+use Rattle.meanings.specs.Convert.{operand_of, expression_of, statement_of}
 use Rattle.meanings.specs.Values.{Name, same_name, is_among}
-use Rattle.meanings.specs.Static.{KType, IntType, Static, declared, with_local, type_of, type_of_operand, type_of_binary, IsTyped, KTyped, main_static}
-use Rattle.meanings.specs.JTyped.{KnowsOperand, Knows, AreTyped, JTyped}
+use Rattle.meanings.specs.Static.{KType, IntType, Static, declared, with_local, type_of, type_of_operand, IsTyped, main_static}
+use Rattle.meanings.specs.JTyped.{KnowsOperand, Knows, AreTyped}
 use Rattle.meanings.specs.Laws.{TypesAreKept}
 
 -- the declared types are `Int` at the locals, and nothing is declared but they and the parameter

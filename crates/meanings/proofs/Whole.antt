@@ -1,12 +1,12 @@
 -- Laws of whole runs.
-use Rattle.std.proofs.Common.{◌≡◌, ℕ, suc, Bool, true, false, List, [], ◌∷◌, ◌++◌, Option, Some, None, slice_get, refl, sym, ap, ◌∙◌, subst, append_assoc}
+use Rattle.std.proofs.Common.{◌≡◌, ℕ, suc, true, false, List, [], ◌∷◌, ◌++◌, Option, Some, None, slice_get, refl, sym, ap, ◌∙◌, append_assoc}
 use Rattle.std.proofs.lemmas.List.{append-nil}
-use Rattle.meanings.specs.Values.{Name, Step, Answer}
+use Rattle.meanings.specs.Values.{Name, Step}
 use Rattle.meanings.specs.Program.{Turn, Next, IsBusy, Ended}
 use Rattle.meanings.specs.World.{World, Reply, IsReady, state_of, answer}
-use Rattle.meanings.specs.Runs.{Item, Stepped, Blocked, WasBusy, HadEnded, Missing, Thread, Behavior, After, replied, turned, turn_of, run, world_after}
-use Rattle.meanings.specs.Laws.{IsKept, SameThreads, EqualRuns, is_step, OnlyStepsChange, OneAnswer, printed, Answered, all_printed, Grows, RunsGrow}
-use Rattle.meanings.proofs.RunLaws.{Kept, run_same}
+use Rattle.meanings.specs.Runs.{Item, Stepped, Blocked, WasBusy, HadEnded, Missing, Thread, Behavior, After, replied, turned, turn_of, run}
+use Rattle.meanings.specs.Laws.{EqualRuns, is_step, OnlyStepsChange, OneAnswer, printed, Answered, all_printed, Grows, RunsGrow}
+use Rattle.meanings.proofs.RunLaws.{run_same}
 use Rattle.meanings.proofs.Answers.{answer_says}
 
 pub equal_runs : EqualRuns

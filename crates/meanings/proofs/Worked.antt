@@ -1,5 +1,5 @@
 -- Worked runs: `int a = 2; int b = a * 3; System.out.println(a + b);`.
-use Rattle.std.proofs.Common.{◌≡◌, ℕ, List, [], ◌∷◌, refl}
+use Rattle.std.proofs.Common.{◌≡◌, [], ◌∷◌, refl}
 use Rattle.std.specs.Prelude.{codes}
 use Rattle.std.specs.Int.{int_wrap}
 use Rattle.std.specs.Fmt.{digits}
@@ -9,8 +9,8 @@ use Rattle.meanings.specs.declared.java.JExpr.TheVariants.{Operand, Binary}
 use Rattle.meanings.specs.declared.java.JStmt.TheVariants as s
 use Rattle.meanings.specs.declared.java.JClass.{JClass}
 use Rattle.meanings.specs.Convert.{class_of}
-use Rattle.meanings.specs.Values.{Value, Null, Step, Print, End, Result, Answer, Done}
-use Rattle.meanings.specs.Runs.{Item, Stepped, WasBusy, HadEnded, Missing}
+use Rattle.meanings.specs.Values.{Null, Print, End, Result, Done}
+use Rattle.meanings.specs.Runs.{Stepped, WasBusy, HadEnded, Missing}
 use Rattle.meanings.specs.SameSteps.{Entry, Input, JavaRun, KotlinRun}
 
 abbrev java : JClass

@@ -1,13 +1,13 @@
 -- Worked runs of hand-made programs: class initialization by two threads, monitors, thread starts, input.
-use Rattle.std.proofs.Common.{◌≡◌, ℕ, pos, negsuc, Bool, true, false, List, [], ◌∷◌, refl}
+use Rattle.std.proofs.Common.{◌≡◌, ℕ, pos, negsuc, true, false, List, [], ◌∷◌, refl}
 use Rattle.std.specs.Prelude.{codes}
 use Rattle.std.specs.Fmt.{digits}
-use Rattle.meanings.specs.Values.{Name, same_name, Site, Value, Null, Integer, Class, Object, Lambda, NoMore, Int, Step, Touch, InitEnd, Enter, Exit, Print, ReadByte, Raise, Start as StartStep, Join, End, Result, Uncaught, Answer, Ready, Run, Mine, Failed, Done, Given, Raised}
+use Rattle.meanings.specs.Values.{Name, same_name, Site, Value, Null, Integer, Class, Object, Lambda, NoMore, Int, Touch, InitEnd, Enter, Exit, Print, ReadByte, Raise, Start as StartStep, Join, End, Result, Uncaught, Ready, Run, Mine, Failed, Done, Given, Raised}
 use Rattle.meanings.specs.Outcome.{Throws, Meaning, ◌>>◌, ◌>>=◌, pure, jump}
 use Rattle.meanings.specs.Machine.{Place, touch, ask_value, ask_done, print_line}
 use Rattle.meanings.specs.Library.{Content}
 use Rattle.meanings.specs.World.{World, Status}
-use Rattle.meanings.specs.Program.{Program, Start, Enters, thread, is_library_error}
+use Rattle.meanings.specs.Program.{Program, Enters, thread, is_library_error}
 use Rattle.meanings.specs.Runs.{Thread, Item, Stepped, Blocked, HadEnded, run}
 
 abbrev a : Name

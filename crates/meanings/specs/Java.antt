@@ -10,7 +10,7 @@ use Rattle.meanings.specs.declared.java.JClass.{JClass}
 use Rattle.meanings.specs.Values.{Name, Site, Value, Integer, Int, Answer}
 use Rattle.meanings.specs.Outcome.{Meaning, pure, ◌>>=◌, local, assign}
 use Rattle.meanings.specs.Machine.{Place, print_line, arithmetic, binary, sequence}
-use Rattle.meanings.specs.Program.{Body, Program, Start, Turn, thread, is_library_error}
+use Rattle.meanings.specs.Program.{Program, Start, Turn, thread, is_library_error}
 
 -- a simple name (JLS 6.5.6.1) or a decimal literal (JLS 3.10.1, 15.8.1)
 abbrev pub java_operand : Place → JOperand → Meaning Value

@@ -1,5 +1,5 @@
 -- Kotlin: what each construct of a tree does at a place with its declared types, and the program of a class.
-use Rattle.std.specs.Prelude.{ℕ, pos, Bool, true, false, ◌&&◌, List, [], ◌∷◌, Option, Some, None, if◌then◌else◌, codes}
+use Rattle.std.specs.Prelude.{ℕ, pos, true, false, ◌&&◌, List, [], ◌∷◌, Option, Some, None, if◌then◌else◌, codes}
 use Rattle.meanings.specs.declared.kotlin.KOperand.{KOperand}
 use Rattle.meanings.specs.declared.kotlin.KOperand.TheVariants.{Local, Number}
 use Rattle.meanings.specs.declared.kotlin.KExpr.{KExpr}
@@ -10,7 +10,7 @@ use Rattle.meanings.specs.declared.kotlin.KClass.{KClass}
 use Rattle.meanings.specs.Values.{Kind, Value, Integer, Int, is_null, Answer}
 use Rattle.meanings.specs.Outcome.{Meaning, pure, ◌>>=◌, ◌>>◌, torn, local, assign}
 use Rattle.meanings.specs.Machine.{Place, print_line, arithmetic, binary}
-use Rattle.meanings.specs.Program.{Body, Program, Start, Turn, thread, is_library_error}
+use Rattle.meanings.specs.Program.{Program, Start, Turn, thread, is_library_error}
 use Rattle.meanings.specs.Java.{main_site}
 use Rattle.meanings.specs.Static.{KType, is_non_null, Static, declared, type_of, extended, main_static}
 

@@ -1,13 +1,12 @@
 -- What holds of every program, world and run.
-use Rattle.std.specs.Prelude.{◌≡◌, ◌↔◌, ℕ, zero, suc, ◌+◌, ◌≤◌, Bool, true, false, List, [], ◌∷◌, ◌++◌, length, Option, Some, None, slice_get, if◌then◌else◌, ◌==◌}
+use Rattle.std.specs.Prelude.{◌≡◌, ◌↔◌, ℕ, zero, suc, ◌+◌, ◌≤◌, Bool, true, false, List, [], ◌∷◌, ◌++◌, length, Some, slice_get, if◌then◌else◌, ◌==◌}
 use Rattle.meanings.specs.declared.java.JClass.{JClass}
-use Rattle.meanings.specs.declared.kotlin.KClass.{KClass}
 use Rattle.meanings.specs.Values.{Name, same_name, Field, Value, same_value, Step, Touch, InitEnd, Alloc, Put, PutStatic, PutElem, Enter, Exit, Print, ReadByte, Lib, Raise, Start as StartStep, End, Answer}
 use Rattle.meanings.specs.Convert.{class_of}
 use Rattle.meanings.specs.JTyped.{JTyped}
 use Rattle.meanings.specs.Static.{KTyped}
 use Rattle.meanings.specs.Program.{Program, Start, thread, thread_at}
-use Rattle.meanings.specs.World.{World, Hold, ClassState, IsReady, IsFailed, state_of, hold_of, answer}
+use Rattle.meanings.specs.World.{World, IsReady, IsFailed, state_of, hold_of, answer}
 use Rattle.meanings.specs.Runs.{Item, Stepped, Blocked, WasBusy, HadEnded, Missing, Thread, Behavior, turn_of, run, world_after}
 
 -- a value is the same as itself alone

@@ -3,7 +3,7 @@ use Rattle.std.specs.Prelude.{ℕ, zero, suc, ℤ, pos, negsuc, ◌+ℤ◌, ◌-
 use Rattle.meanings.specs.declared.operators.Operator.{Operator}
 use Rattle.meanings.specs.declared.operators.Operator.TheVariants.{Plus, Minus, Times}
 use Rattle.meanings.specs.Values.{Name, same_name, is_among, Field, Site, Kind, Value, Null, Integer, Array, Lambda, captured_list, Step, Touch, InitEnd, Get, Put, GetStatic, PutStatic, GetElem, PutElem, Print, Raise, Answer, Ready, Run, Mine, Failed, Done, Given, Raised, integer_in, is_true, is_null, class_in, narrowed, line_of}
-use Rattle.meanings.specs.Outcome.{Locals, State, Exit, Break, Continue, Jump, Exits, Returns, Throws, Outcome, Asks, Busy, Gives, Jumps, Meaning, pure, ◌>>=◌, ◌>>◌, jump, ask, busy, pay}
+use Rattle.meanings.specs.Outcome.{Locals, State, Exit, Break, Continue, Exits, Returns, Throws, Outcome, Asks, Busy, Gives, Jumps, Meaning, pure, ◌>>=◌, ◌>>◌, jump, ask, busy, pay}
 
 -- The bodies that a text enters: methods and constructors with their arguments, an instance's receiver first,
 -- lambda bodies with what they captured and their arguments, and the static initializers of a class. They have locals of their own.

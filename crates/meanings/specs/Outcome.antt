@@ -1,5 +1,5 @@
 -- A meaning: what a part of a program does in a situation.
-use Rattle.std.specs.Prelude.{ℕ, zero, suc, pos, Bool, List, [], ◌∷◌, Option, if◌then◌else◌}
+use Rattle.std.specs.Prelude.{ℕ, zero, suc, pos, List, [], ◌∷◌, Option, if◌then◌else◌}
 use Rattle.meanings.specs.Values.{Name, same_name, Value, Integer, Int, Step, Torn, Answer}
 
 -- the locals, the newest binding first

@@ -1,8 +1,8 @@
 -- A program of either language, and its threads.
 use Rattle.std.specs.Prelude.{ℕ, zero, suc, ◌+◌, Bool, true, false, not, List, [], ◌∷◌, ◌++◌, length, if◌then◌else◌, codes}
-use Rattle.meanings.specs.Values.{Name, same_name, Site, same_site, Value, Null, Integer, Boolean, Units, Class, Object, Array, Lambda, captured_list, Step, End, Result, Uncaught, Answer}
-use Rattle.meanings.specs.Outcome.{State, Exits, Returns, Throws, Outcome, Asks, Busy, Gives, Jumps, Meaning, ◌>>◌, pure, busy, pay, assign_all}
-use Rattle.meanings.specs.Machine.{Bodies, Place, touch, call, call_on, call_lambda}
+use Rattle.meanings.specs.Values.{Name, same_name, Site, same_site, Value, Null, Step, End, Result, Uncaught, Answer}
+use Rattle.meanings.specs.Outcome.{Exits, Returns, Throws, Outcome, Asks, Busy, Gives, Jumps, Meaning, ◌>>◌, pure, busy, pay, assign_all}
+use Rattle.meanings.specs.Machine.{Bodies, Place, touch, call, call_on}
 
 -- a method, constructor or lambda body: its parameters, `this` first, and what its text does at a place
 pub record Body : Type 0 where

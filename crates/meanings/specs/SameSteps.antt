@@ -1,12 +1,11 @@
 -- Entry points, inputs and recorded names, and the headline: the Kotlin makes the Java's steps.
-use Rattle.std.specs.Prelude.{◌≡◌, ℕ, Bool, true, false, ◌&&◌, List, [], ◌∷◌, map, length, if◌then◌else◌, codes}
+use Rattle.std.specs.Prelude.{◌≡◌, ℕ, false, ◌&&◌, List, [], ◌∷◌, map, length, if◌then◌else◌, codes}
 use Rattle.meanings.specs.declared.java.JClass.{JClass}
 use Rattle.meanings.specs.declared.kotlin.KClass.{KClass}
-use Rattle.meanings.specs.Values.{Name, same_name, Site, Value, Null, Units, Array, Objects}
-use Rattle.meanings.specs.Library.{Content}
-use Rattle.meanings.specs.Program.{Start, Enters}
+use Rattle.meanings.specs.Values.{Name, same_name, Value, Null, Units, Array, Objects}
+use Rattle.meanings.specs.Program.{Enters}
 use Rattle.meanings.specs.World.{World}
-use Rattle.meanings.specs.Runs.{Behavior, Thread, Item, run, NeverTorn}
+use Rattle.meanings.specs.Runs.{Thread, Item, run, NeverTorn}
 use Rattle.meanings.specs.Java.{main_site, JavaThread}
 use Rattle.meanings.specs.Kotlin.{KotlinThread}
 

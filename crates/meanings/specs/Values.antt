@@ -1,6 +1,6 @@
 -- Values, the steps that a thread asks of the world, and their answers.
 use Rattle.std.specs.Prelude.{ℕ, ℤ, pos, negsuc, nat_abs, Bool, true, false, ◌==◌, ◌&&◌, if◌then◌else◌, List, [], ◌∷◌, ◌++◌, codes}
-use Rattle.std.specs.Int.{Width, w8, w16, w32, w64, int_wrap, int_rem_euclid}
+use Rattle.std.specs.Int.{w8, w16, w32, w64, int_wrap, int_rem_euclid}
 use Rattle.std.specs.Fmt.{signed_decimal}
 
 -- ---- names

@@ -1,6 +1,6 @@
 -- The world that threads share, and its answers. It knows nothing of a language.
-use Rattle.std.specs.Prelude.{ℕ, zero, suc, ◌+◌, ℤ, pos, negsuc, Bool, true, false, List, [], ◌∷◌, ◌++◌, length, map, replicate, Option, Some, None, slice_get, slice_set, slice_index_or, if◌then◌else◌, ◌==◌, codes}
-use Rattle.meanings.specs.Values.{Name, same_name, Field, same_field, Kind, Int, Elements, Integers, Booleans, Objects, Arrays, Value, Null, Integer, Boolean, Units, Class, Object, Array, Lambda, same_value, Shape, AnObject, AnArray, AnArrayOf, ALambda, Step, Touch, InitEnd, Alloc, Built, Get, Put, GetStatic, PutStatic, GetElem, PutElem, Enter, Exit, Print, ReadByte, Lib, Raise, Start, Join, End, Torn, Answer, Ready, Run, Mine, Failed, Done, Given, Raised}
+use Rattle.std.specs.Prelude.{ℕ, zero, suc, pos, negsuc, Bool, true, false, List, [], ◌∷◌, ◌++◌, length, replicate, Option, Some, None, slice_get, slice_set, slice_index_or, if◌then◌else◌, ◌==◌, codes}
+use Rattle.meanings.specs.Values.{Name, same_name, Field, same_field, Int, Elements, Integers, Booleans, Objects, Arrays, Value, Null, Integer, Boolean, Units, Object, Array, Lambda, same_value, Shape, AnObject, AnArray, AnArrayOf, ALambda, Step, Touch, InitEnd, Alloc, Built, Get, Put, GetStatic, PutStatic, GetElem, PutElem, Enter, Exit, Print, ReadByte, Lib, Raise, Start, Join, End, Torn, Answer, Ready, Run, Mine, Failed, Done, Given, Raised}
 use Rattle.meanings.specs.Library.{Content, Row, library}
 
 -- the state of a class (JLS 12.4.2); a running initialization has the number of its thread
