@@ -9,14 +9,15 @@ use Rattle.meanings.specs.declared.java.JStmt.{JStmt}
 use Rattle.meanings.specs.declared.java.JStmt.TheVariants.{Local, Print}
 use Rattle.meanings.specs.declared.java.JClass.{JClass}
 use Rattle.meanings.specs.Convert.{class_of}
-use Rattle.meanings.specs.Values.{Name, same_name, Value, Step, Touch, InitEnd, Alloc, Built, Get, Put, GetStatic, PutStatic, GetElem, PutElem, Enter, Exit, Print as PrintStep, ReadByte, Lib, Raise, Start as StartStep, Join, End, Torn, Answer, Ready, Run, Mine, Failed, Done, Given, Raised}
+use Rattle.meanings.specs.Values.{Name, Site, Value, Step, Touch, InitEnd, Alloc, Built, Get, Put, GetStatic, PutStatic, GetElem, PutElem, Enter, Exit, Print as PrintStep, ReadByte, Lib, Raise, Start as StartStep, Join, End, Torn, Answer, Ready, Run, Mine, Failed, Done, Given, Raised}
 use Rattle.meanings.specs.Machine.{Place}
-use Rattle.meanings.specs.Program.{Start, Enters, Turn, Next, IsBusy, Ended}
+use Rattle.meanings.specs.Program.{main_entry, Turn, Next, IsBusy, Ended, Start, Enters}
 use Rattle.meanings.specs.World.{World, Reply, answer}
 use Rattle.meanings.specs.Runs.{Thread, Behavior, begun, with_new, replied, turned, turn_of, run, NeverTorn}
-use Rattle.meanings.specs.Java.{java_operand, java_expr, java_stmt, main_site, java_program, JavaThread}
+use Rattle.meanings.specs.Java.{java_operand, java_expr, java_stmt, java_program, JavaThread}
 use Rattle.meanings.specs.Kotlin.{KotlinThread}
-use Rattle.meanings.specs.SameSteps.{Input, arguments_value, first_world, first_threads, SameSteps}
+use Rattle.meanings.specs.Entries.{Input, first_world, first_threads}
+use Rattle.meanings.specs.SameSteps.{SameSteps}
 use Rattle.meanings.proofs.Calm.{Calm, CalmProgram, AllCalm, none, more, bind_calm, pure_calm, local_calm, assign_calm, arithmetic_calm, binary_calm, print_line_calm, sequence_calm, thread_calm}
 use Rattle.meanings.proofs.RunLaws.{Kept, run_same, run_never_torn}
 use Rattle.meanings.proofs.SameText.{IsGiven, thread_same}
@@ -111,9 +112,9 @@ kept next n = record { kept = λ w ts i h. turn_given next n w ts i (slice_get t
 
 -- ---- runs
 
-first_given : (b : Bool) (class : Name) (input : Input) → StartsGiven (if b then record { start = Enters (main_site class) (arguments_value input ∷ []); had = [] } ∷ [] else [])
-first_given true class input = ((refl, tt), tt)
-first_given false class input = tt
+first_given : (o : Option Site) (input : Input) → StartsGiven (first_threads o input)
+first_given None input = tt
+first_given (Some site) input = ((refl, tt), tt)
 
 pub run_of_class : (class : JClass) (n : ℕ) (w : World) (ts : List Thread) → StartsGiven ts → (schedule : List ℕ) → run (KotlinThread (class_of class)) n w ts schedule ≡ run (JavaThread class) n w ts schedule
 run_of_class class n w ts h schedule =
@@ -130,6 +131,8 @@ never_torn_of_class class n w ts h schedule =
 -- the headline's theorem, for every class of the form
 pub same_steps : (class : JClass) → SameSteps class (class_of class)
 same_steps class = record {
-  same = λ entry is input schedule n. run_of_class class n (first_world input) (first_threads class.name entry input) (first_given (same_name entry.class class.name && same_name entry.method (codes "main")) class.name input) schedule;
-  never_torn = λ entry is input schedule n. never_torn_of_class class n (first_world input) (first_threads class.name entry input) (first_given (same_name entry.class class.name && same_name entry.method (codes "main")) class.name input) schedule;
+  same = λ entry is input schedule n.
+      run_of_class class n (first_world (java_program class) input) (first_threads (main_entry class.name entry.class entry.method) input) (first_given (main_entry class.name entry.class entry.method) input) schedule;
+  never_torn = λ entry is input schedule n.
+      never_torn_of_class class n (first_world (java_program class) input) (first_threads (main_entry class.name entry.class entry.method) input) (first_given (main_entry class.name entry.class entry.method) input) schedule;
 }

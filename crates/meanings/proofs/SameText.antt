@@ -12,9 +12,9 @@ use Rattle.meanings.specs.Convert.{operand_of, expression_of, statement_of, clas
 use Rattle.meanings.specs.Values.{Name, same_name, Site, same_site, Kind, Value, Null, Integer, Lambda, captured_list, Int, Step, Answer, Ready, Run, Mine, Failed, Done, Given, Raised, is_null, integer_in, narrowed}
 use Rattle.meanings.specs.Outcome.{Locals, get, State, Outcome, Asks, Busy, Gives, Jumps, Meaning, then_do, pure, torn, ◌>>◌, ask_from, pay_from, assign_all}
 use Rattle.meanings.specs.Machine.{Place, operated, received, print_line, returned, sequence}
-use Rattle.meanings.specs.Program.{Start, Enters, Runs, thread_from, turn, place, bodies, run_site}
+use Rattle.meanings.specs.Program.{Start, Enters, Runs, thread_from, turn, place, bodies, run_site, main_site}
 use Rattle.meanings.specs.Static.{KType, type_of, is_non_null, Static, declared, extended, main_static}
-use Rattle.meanings.specs.Java.{java_expr, java_operand, java_stmt, main_site, java_program, JavaThread}
+use Rattle.meanings.specs.Java.{java_expr, java_operand, java_stmt, java_program, JavaThread}
 use Rattle.meanings.specs.Kotlin.{used, operator_kind, kotlin_expr, kotlin_operand, kotlin_stmts, kotlin_program, KotlinThread}
 
 -- ---- no value is null

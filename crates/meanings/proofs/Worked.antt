@@ -11,7 +11,8 @@ use Rattle.meanings.specs.declared.java.JClass.{JClass}
 use Rattle.meanings.specs.Convert.{class_of}
 use Rattle.meanings.specs.Values.{Null, Print, End, Result, Done}
 use Rattle.meanings.specs.Runs.{Stepped, WasBusy, HadEnded, Missing}
-use Rattle.meanings.specs.SameSteps.{Entry, Input, JavaRun, KotlinRun}
+use Rattle.meanings.specs.Entries.{Entry, Input}
+use Rattle.meanings.specs.SameSteps.{JavaRun, KotlinRun}
 
 abbrev java : JClass
 java = record {

@@ -7,7 +7,7 @@ use Rattle.meanings.specs.Outcome.{Throws, Meaning, ◌>>◌, ◌>>=◌, pure, j
 use Rattle.meanings.specs.Machine.{Place, touch, ask_value, ask_done, print_line}
 use Rattle.meanings.specs.Library.{Content}
 use Rattle.meanings.specs.World.{World, Status}
-use Rattle.meanings.specs.Program.{Program, Enters, thread, is_library_error}
+use Rattle.meanings.specs.Program.{Program, Enters, thread, is_library_error, main_entry}
 use Rattle.meanings.specs.Runs.{Thread, Item, Stepped, Blocked, HadEnded, run}
 
 abbrev a : Name
@@ -23,6 +23,8 @@ program text initializer = record {
   constructors = [];
   lambdas = record { site = main; parameters = []; text = λ p. print_line (Integer Int (pos 5)) } ∷ [];
   initializers = record { class = a; text = initializer } ∷ [];
+  entry = main_entry (codes "Main");
+  defaults = [];
   is_idle = λ name. true;
   touches = λ own name. same_name name a;
   resolves = λ site name. site;

@@ -7,10 +7,10 @@ use Rattle.meanings.specs.declared.java.JExpr.TheVariants.{Operand, Binary}
 use Rattle.meanings.specs.declared.java.JStmt.{JStmt}
 use Rattle.meanings.specs.declared.java.JStmt.TheVariants.{Local, Print}
 use Rattle.meanings.specs.declared.java.JClass.{JClass}
-use Rattle.meanings.specs.Values.{Name, Site, Value, Integer, Int, Answer}
+use Rattle.meanings.specs.Values.{Value, Integer, Int, Answer}
 use Rattle.meanings.specs.Outcome.{Meaning, pure, ◌>>=◌, local, assign}
 use Rattle.meanings.specs.Machine.{Place, print_line, arithmetic, binary, sequence}
-use Rattle.meanings.specs.Program.{Program, Start, Turn, thread, is_library_error}
+use Rattle.meanings.specs.Program.{Program, Start, Turn, thread, is_library_error, main_site, main_entry}
 
 -- a simple name (JLS 6.5.6.1) or a decimal literal (JLS 3.10.1, 15.8.1)
 abbrev pub java_operand : Place → JOperand → Meaning Value
@@ -31,10 +31,6 @@ java_stmt p (Print value) = java_expr p value >>= print_line
 abbrev pub java_stmts : Place → List JStmt → List (Meaning (Unit {0}))
 java_stmts p body = map (java_stmt p) body
 
--- `main`, the one method of a class of this form
-abbrev pub main_site : Name → Site
-main_site class = record { class = class; is_static = true; ordinal = 0 }
-
 -- Its class has no static initializers, so it is idle: it is never touched (own rule).
 abbrev pub java_program : JClass → Program
 java_program class = record {
@@ -42,6 +38,8 @@ java_program class = record {
   constructors = [];
   lambdas = [];
   initializers = [];
+  entry = main_entry class.name;
+  defaults = [];
   is_idle = λ name. true;
   touches = λ own name. false;
   resolves = λ site name. site;

@@ -10,8 +10,7 @@ use Rattle.meanings.specs.declared.kotlin.KClass.{KClass}
 use Rattle.meanings.specs.Values.{Kind, Value, Integer, Int, is_null, Answer}
 use Rattle.meanings.specs.Outcome.{Meaning, pure, ◌>>=◌, ◌>>◌, torn, local, assign}
 use Rattle.meanings.specs.Machine.{Place, print_line, arithmetic, binary}
-use Rattle.meanings.specs.Program.{Program, Start, Turn, thread, is_library_error}
-use Rattle.meanings.specs.Java.{main_site}
+use Rattle.meanings.specs.Program.{Program, Start, Turn, thread, is_library_error, main_site, main_entry}
 use Rattle.meanings.specs.Static.{KType, is_non_null, Static, declared, type_of, extended, main_static}
 
 -- A value at a use: null at a place of a non-null type is Torn (own rule). Where no type is known nothing is.
@@ -52,6 +51,8 @@ kotlin_program class = record {
   constructors = [];
   lambdas = [];
   initializers = [];
+  entry = main_entry class.name;
+  defaults = [];
   is_idle = λ name. true;
   touches = λ own name. false;
   resolves = λ site name. site;

@@ -11,6 +11,7 @@ pub mod Runs
 pub mod Java
 pub mod Static
 pub mod Kotlin
+pub mod Entries
 pub mod SameSteps
 pub mod Laws
 pub mod JTyped

@@ -1,6 +1,6 @@
 -- A program of either language, and its threads.
-use Rattle.std.specs.Prelude.{ℕ, zero, suc, ◌+◌, Bool, true, false, not, List, [], ◌∷◌, ◌++◌, length, if◌then◌else◌, codes}
-use Rattle.meanings.specs.Values.{Name, same_name, Site, same_site, Value, Null, Step, End, Result, Uncaught, Answer}
+use Rattle.std.specs.Prelude.{ℕ, zero, suc, ◌+◌, Bool, true, false, not, ◌&&◌, Option, Some, None, List, [], ◌∷◌, ◌++◌, length, if◌then◌else◌, codes}
+use Rattle.meanings.specs.Values.{Name, same_name, Field, Site, same_site, Value, Null, Step, End, Result, Uncaught, Answer}
 use Rattle.meanings.specs.Outcome.{Exits, Returns, Throws, Outcome, Asks, Busy, Gives, Jumps, Meaning, ◌>>◌, pure, busy, pay, assign_all}
 use Rattle.meanings.specs.Machine.{Bodies, Place, touch, call, call_on}
 
@@ -21,11 +21,17 @@ pub record Program : Type 0 where
   pub constructors : List Body
   pub lambdas : List Body
   pub initializers : List Initializer
+  -- where the static method stands that an entry point names, by its class and its name (JLS 12.1.4)
+  pub entry : Name → Name → Option Site
+  -- the fields and statics whose default is not null (JLS 4.12.5)
+  pub defaults : List (Field × Value)
   -- a class that is never touched (own rule)
   pub is_idle : Name → Bool
   -- whether the text of the first class touches the second
   pub touches : Name → Name → Bool
+  -- the method that a call of this one enters on an object of the class (JLS 15.12.4.4)
   pub resolves : Site → Name → Site
+  -- whether the class is Error or below it (JLS 11.1.1)
   pub is_error : Name → Bool
 
 -- The Errors of the library (JLS 11.1.1); a project's own are its classes below them.
@@ -35,6 +41,16 @@ is_library_error name = if same_name name (codes "Error") then true else (if sam
 -- the method `run` of Runnable, which a new thread calls
 abbrev pub run_site : Site
 run_site = record { class = codes "Runnable"; is_static = false; ordinal = 0 }
+
+-- ---- a class of this form, whose one method is `main`
+
+abbrev pub main_site : Name → Site
+main_site class = record { class = class; is_static = true; ordinal = 0 }
+
+abbrev pub main_entry : Name → Name → Name → Option Site
+main_entry own class method = if same_name class own && same_name method (codes "main") then Some (main_site own) else None
+
+-- ---- threads
 
 -- how a thread starts: an entry point with its arguments, or an object's `run`
 pub data Start : Type 0 where
