@@ -14,6 +14,7 @@ abbrev pub KnowsOperand : List Name → JOperand → Type 0
 KnowsOperand locals (LocalName name) = is_among locals name ≡ true
 KnowsOperand locals (Number n) = Unit {0}
 
+-- each name of an expression is a local declared before (JLS 6.3)
 abbrev pub Knows : List Name → JExpr → Type 0
 Knows locals (Operand a) = KnowsOperand locals a
 Knows locals (Binary a operator b) = KnowsOperand locals a × KnowsOperand locals b
@@ -24,5 +25,6 @@ AreTyped locals [] = Unit {0}
 AreTyped locals (Local name value ∷ more) = (same_name (codes "args") name ≡ false) × (is_among locals name ≡ false) × Knows locals value × AreTyped (name ∷ locals) more
 AreTyped locals (Print value ∷ more) = Knows locals value × AreTyped locals more
 
+-- a class whose `main` is well typed
 abbrev pub JTyped : JClass → Type 0
 JTyped class = AreTyped [] class.main

@@ -11,6 +11,7 @@ use Rattle.meanings.specs.declared.kotlin.KClass.{KClass}
 use Rattle.meanings.specs.KText.{KText}
 use Rattle.meanings.specs.Values.{Name}
 
+-- letters and digits alone
 abbrev pub IsWord : List ℕ → Type 0
 IsWord [] = Unit {0}
 IsWord (byte ∷ more) = (is_ascii_alphanumeric byte ≡ true) × IsWord more
@@ -25,10 +26,12 @@ abbrev pub IsOperand : KOperand → Type 0
 IsOperand (Local name) = IsIdentifier name
 IsOperand (Number n) = n < 2 ^ 31
 
+-- its names and literals are those of Kotlin
 abbrev pub IsExpression : KExpr → Type 0
 IsExpression (Operand a) = IsOperand a
 IsExpression (Binary a operator b) = IsOperand a × IsOperand b
 
+-- so are those of statements
 abbrev pub AreStatements : List KStmt → Type 0
 AreStatements [] = Unit {0}
 AreStatements (Val name value ∷ more) = IsIdentifier name × IsExpression value × AreStatements more

@@ -40,6 +40,7 @@ abbrev pub EqualRuns : Type 0
 EqualRuns = (next next' : Behavior) (n : ℕ) (holds : World → List Thread → Bool) → IsKept next n holds → SameThreads next next' n holds →
     (w : World) (ts : List Thread) → holds w ts ≡ true → (schedule : List ℕ) → run next n w ts schedule ≡ run next' n w ts schedule
 
+-- the item is a step with its answer
 abbrev pub is_step : Item → Bool
 is_step (Stepped i p a) = true
 is_step (Blocked i p) = false
@@ -58,10 +59,12 @@ OnlyStepsChange = (next : Behavior) (n : ℕ) (w : World) (ts : List Thread) (i 
 abbrev pub OneAnswer : Type 0
 OneAnswer = (w : World) (thread : ℕ) (p : Step) (r r' : World × Answer) → answer w thread p ≡ Some r → answer w thread p ≡ Some r' → r ≡ r'
 
+-- what a step prints
 abbrev pub printed : Step → List ℕ
 printed (Print units) = units
 printed _ = []
 
+-- the input without its first byte
 abbrev pub rest_of : List ℕ → List ℕ
 rest_of [] = []
 rest_of (b ∷ input) = input
@@ -71,10 +74,12 @@ abbrev pub left : Step → List ℕ → List ℕ
 left ReadByte input = rest_of input
 left _ input = input
 
+-- the statics that a step leaves
 abbrev pub statics_after : Step → List (Field × Value) → List (Field × Value)
 statics_after (PutStatic field v) statics = (field, v) ∷ statics
 statics_after _ statics = statics
 
+-- the steps that make or store into an object
 abbrev pub changes_heap : Step → Bool
 changes_heap (Alloc shape) = true
 changes_heap (Put v field new) = true
@@ -84,6 +89,7 @@ changes_heap (Raise class) = true
 changes_heap (StartStep v) = true
 changes_heap _ = false
 
+-- the steps that start or end a thread
 abbrev pub changes_threads : Step → Bool
 changes_threads (StartStep v) = true
 changes_threads (End ending) = true
@@ -104,6 +110,7 @@ abbrev pub entries : Step → Value → ℕ
 entries (Enter other) v = if same_value other v then 1 else 0
 entries _ v = 0
 
+-- an exit counts where the thread owns the monitor
 abbrev pub owned : ℕ → ℕ → ℕ → ℕ
 owned thread owner zero = 0
 owned thread owner (suc k) = if owner == thread then 1 else 0
@@ -127,6 +134,7 @@ pub record Answered (w : World) (thread : ℕ) (p : Step) (after : World) : Type
   pub failed : (class : Name) → state_of w.classes class ≡ IsFailed → state_of after.classes class ≡ IsFailed
   pub monitors : (v : Value) → count_of after v + exits w thread p v ≡ count_of w v + entries p v
 
+-- this holds of each answer
 abbrev pub ChangesOnlyWhatItSays : Type 0
 ChangesOnlyWhatItSays = (w : World) (thread : ℕ) (p : Step) (after : World) (a : Answer) → answer w thread p ≡ Some (after, a) → Answered w thread p after
 
@@ -147,5 +155,6 @@ pub record Grows (next : Behavior) (n : ℕ) (w : World) (ts : List Thread) (sch
   pub output : (world_after next n w ts schedule).output ≡ w.output ++ all_printed (run next n w ts schedule)
   pub ready : (class : Name) → state_of w.classes class ≡ IsReady → state_of (world_after next n w ts schedule).classes class ≡ IsReady
 
+-- this holds of each run
 abbrev pub RunsGrow : Type 0
 RunsGrow = (next : Behavior) (n : ℕ) (w : World) (ts : List Thread) (schedule : List ℕ) → Grows next n w ts schedule

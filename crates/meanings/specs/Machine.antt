@@ -35,9 +35,11 @@ received Mine = pure Null
 received Failed = pure Null
 received Done = pure Null
 
+-- a step whose answer is a value
 abbrev pub ask_value : Step → Meaning Value
 ask_value p = ask p >>= received
 
+-- a step that gives no value
 abbrev pub ask_done : Step → Meaning (Unit {0})
 ask_done p = ask p >>= received >> pure tt
 
@@ -64,9 +66,11 @@ apart m s = returned s.locals (m (record s { locals = [] }))
 abbrev pub call : Place → Site → List Value → Meaning Value
 call p site vs = apart (p.bodies.method site vs)
 
+-- a constructor's body (JLS 15.9.4)
 abbrev pub construct : Place → Site → List Value → Meaning Value
 construct p site vs = apart (p.bodies.constructor site vs)
 
+-- a lambda's body, with what it captured (JLS 15.27.4)
 abbrev pub call_lambda : Place → Site → List Value → List Value → Meaning Value
 call_lambda p site captured vs = apart (p.bodies.lambda site captured vs)
 
@@ -81,6 +85,7 @@ call_on p site receiver vs = call p (p.resolves site (class_in receiver)) (recei
 abbrev pub fail : (Name → Bool) → Value → Meaning (Unit {0})
 fail is_error v = if is_error (class_in v) then jump (Throws v) else raise (codes "ExceptionInInitializerError")
 
+-- the end of an initialization, well or failed (JLS 12.4.2, steps 10 to 12)
 abbrev pub init_end : (Name → Bool) → Name → Outcome Value → Outcome (Unit {0})
 init_end is_error class (Asks p) = Asks p
 init_end is_error class Busy = Busy
@@ -93,6 +98,7 @@ init_end is_error class (Jumps (Exits e) s) = ask_done (InitEnd class true) s
 abbrev pub initialize : Place → Name → Meaning (Unit {0})
 initialize p class s = init_end p.is_error class (apart (p.bodies.initializer class) s)
 
+-- what follows each answer to a Touch (JLS 12.4.2, steps 2 to 7)
 abbrev pub touched : Place → Name → Answer → Meaning (Unit {0})
 touched p class Run = initialize p class
 touched p class Failed = raise (codes "NoClassDefFoundError")
@@ -108,9 +114,11 @@ touch p class = if p.touches class then ask (Touch class) >>= touched p class el
 
 -- ---- statics, fields and elements
 
+-- a read of a static (JLS 15.11.1)
 abbrev pub get_static : Field → Meaning Value
 get_static field = ask_value (GetStatic field)
 
+-- a store into a static (JLS 15.26.1)
 abbrev pub put_static : Field → Value → Meaning (Unit {0})
 put_static field v = ask_done (PutStatic field v)
 
@@ -118,12 +126,15 @@ put_static field v = ask_done (PutStatic field v)
 abbrev pub check_null : Value → Meaning (Unit {0})
 check_null v = if is_null v then raise (codes "NullPointerException") else pure tt
 
+-- a read of a field of an object (JLS 15.11.1)
 abbrev pub get_field : Value → Field → Meaning Value
 get_field v field = check_null v >> ask_value (Get v field)
 
+-- a store into a field of an object (JLS 15.26.1)
 abbrev pub put_field : Value → Field → Value → Meaning (Unit {0})
 put_field v field new = check_null v >> ask_done (Put v field new)
 
+-- the length of an array (JLS 10.7); another value has none
 abbrev pub length_in : Value → ℕ
 length_in (Array elements length k) = length
 length_in _ = 0
@@ -133,9 +144,11 @@ abbrev pub index_in : Value → ℤ → Meaning ℕ
 index_in v (pos k) = if nat_lt k (length_in v) then pure k else raise (codes "ArrayIndexOutOfBoundsException")
 index_in v (negsuc k) = raise (codes "ArrayIndexOutOfBoundsException")
 
+-- a read of an element: null, then the bounds are checked (JLS 15.13.1)
 abbrev pub get_element : Value → Value → Meaning Value
 get_element v i = check_null v >> index_in v (integer_in i) >>= (λ k. ask_value (GetElem v k))
 
+-- a store into an element, with the same checks (JLS 15.26.1)
 abbrev pub put_element : Value → Value → Value → Meaning (Unit {0})
 put_element v i new = check_null v >> index_in v (integer_in i) >>= (λ k. ask_done (PutElem v k new))
 
@@ -145,6 +158,7 @@ put_element v i new = check_null v >> index_in v (integer_in i) >>= (λ k. ask_d
 abbrev pub print_line : Value → Meaning (Unit {0})
 print_line v = ask_done (Print (line_of v))
 
+-- the whole number that an operator gives (JLS 15.17.1, 15.18.2)
 abbrev pub operated : Operator → ℤ → ℤ → ℤ
 operated Plus x y = x +ℤ y
 operated Minus x y = x -ℤ y
@@ -181,14 +195,17 @@ abbrev pub is_meant : List Name → Option Name → Bool
 is_meant labels None = true
 is_meant labels (Some name) = is_among labels name
 
+-- a break of the loop with these labels (JLS 14.15)
 abbrev pub is_break : List Name → Exit → Bool
 is_break labels (Break target) = is_meant labels target
 is_break labels (Continue target) = false
 
+-- a continue of the loop with these labels (JLS 14.16)
 abbrev pub is_continue : List Name → Exit → Bool
 is_continue labels (Break target) = false
 is_continue labels (Continue target) = is_meant labels target
 
+-- a break or a continue of it
 abbrev pub is_either : List Name → Exit → Bool
 is_either labels (Break target) = is_meant labels target
 is_either labels (Continue target) = is_meant labels target
@@ -199,10 +216,12 @@ is_label label (Break None) = false
 is_label label (Break (Some name)) = same_name label name
 is_label label (Continue target) = false
 
+-- an exit is caught, or goes on
 abbrev pub caught_exit : Bool → Exit → State → Outcome (Unit {0})
 caught_exit true e s = Gives tt s
 caught_exit false e s = Jumps (Exits e) s
 
+-- the exits that the test takes end the part
 abbrev pub caught : (Exit → Bool) → Outcome (Unit {0}) → Outcome (Unit {0})
 caught is (Jumps (Exits e) s) = caught_exit (is e) e s
 caught is (Jumps (Returns v) s) = Jumps (Returns v) s
@@ -228,6 +247,7 @@ turns (suc k) test body = test >>= choose (pay >> body >> turns k test body) (pu
 abbrev pub loop : List Name → Meaning Value → Meaning (Unit {0}) → Meaning (Unit {0})
 loop labels test body s = catch (is_break labels) (turns s.n test (catch (is_continue labels) body)) s
 
+-- what is thrown goes to the handler
 abbrev pub handled : (Value → Meaning (Unit {0})) → Outcome (Unit {0}) → Outcome (Unit {0})
 handled h (Jumps (Throws v) s) = h v s
 handled h (Jumps (Returns v) s) = Jumps (Returns v) s

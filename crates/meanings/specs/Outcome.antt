@@ -35,29 +35,36 @@ pub data Outcome (A : Type 0) : Type 0 where
   Gives : A → State → Outcome A
   Jumps : Jump → State → Outcome A
 
+-- what a part does, from each situation (own rule)
 abbrev pub Meaning : Type 0 → Type 0
 Meaning A = State → Outcome A
 
+-- what comes after an end that gives a value; a jump, a step and Busy stay (JLS 14.1)
 abbrev pub then_do : {A B : Type 0} → Outcome A → (A → Meaning B) → Outcome B
 then_do (Asks p) f = Asks p
 then_do Busy f = Busy
 then_do (Gives a s) f = f a s
 then_do (Jumps j s) f = Jumps j s
 
+-- a value and nothing else
 abbrev pub pure : {A : Type 0} → A → Meaning A
 pure a s = Gives a s
 
+-- one part, then the next with its value
 abbrev pub ◌>>=◌ : {A B : Type 0} → Meaning A → (A → Meaning B) → Meaning B
 ◌>>=◌ m f s = then_do (m s) f
 
 infixl 1 ◌>>=◌
+-- one part, then the next
 abbrev pub ◌>>◌ : {A B : Type 0} → Meaning A → Meaning B → Meaning B
 ◌>>◌ m k s = then_do (m s) (λ a. k)
 
 infixl 1 ◌>>◌
+-- an abrupt end (JLS 14.1)
 abbrev pub jump : {A : Type 0} → Jump → Meaning A
 jump j s = Jumps j s
 
+-- the step itself where no answer is left
 abbrev pub ask_from : Step → State → List Answer → Outcome Answer
 ask_from p s [] = Asks p
 ask_from p s (a ∷ more) = Gives a (record s { answers = more })
@@ -70,9 +77,11 @@ ask p s = ask_from p s s.answers
 abbrev pub torn : {A : Type 0} → Meaning A
 torn s = Asks Torn
 
+-- n is used up
 abbrev pub busy : {A : Type 0} → Meaning A
 busy s = Busy
 
+-- Busy where nothing is left of n
 abbrev pub pay_from : State → ℕ → Outcome (Unit {0})
 pay_from s zero = Busy
 pay_from s (suc n) = Gives tt (record s { n = n })
@@ -85,6 +94,7 @@ pay s = pay_from s s.n
 abbrev pub local : Name → Meaning Value
 local name s = Gives (get s.locals name) s
 
+-- a local or parameter takes a value (JLS 14.4.2, 15.26.1)
 abbrev pub assign : Name → Value → Meaning (Unit {0})
 assign name v s = Gives tt (record s { locals = (name, v) ∷ s.locals })
 

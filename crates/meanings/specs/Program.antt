@@ -44,9 +44,11 @@ run_site = record { class = codes "Runnable"; is_static = false; ordinal = 0 }
 
 -- ---- a class of this form, whose one method is `main`
 
+-- `main` is the first of the static part
 abbrev pub main_site : Name → Site
 main_site class = record { class = class; is_static = true; ordinal = 0 }
 
+-- its entry point (JLS 12.1.4)
 abbrev pub main_entry : Name → Name → Name → Option Site
 main_entry own class method = if same_name class own && same_name method (codes "main") then Some (main_site own) else None
 
@@ -68,6 +70,7 @@ abbrev pub at_end : List Answer → Step → Turn
 at_end [] p = Next p
 at_end (a ∷ more) p = Ended
 
+-- a thread ends with a result or an uncaught exception (JLS 11.3, 12.8)
 abbrev pub turn : Outcome Value → Turn
 turn (Asks p) = Next p
 turn Busy = IsBusy
@@ -91,6 +94,7 @@ module _ (program : Program) where
   enter b (body ∷ bodies) site vs =
       if same_site body.site site then pay >> (assign_all body.parameters vs >> body.text (place b body.site.class)) else enter b bodies site vs
 
+  -- where a class has no initializers nothing is done
   abbrev pub begin : Bodies → List Initializer → Name → Meaning (Unit {0})
   begin b [] class = pure tt
   begin b (first ∷ initializers) class = if same_name first.class class then first.text (place b class) else begin b initializers class

@@ -33,6 +33,7 @@ pub record After : Type 0 where
 abbrev pub runnable_of : World → Value → Value
 runnable_of w object = slice_index_or (content_of w object).elements 0 Null
 
+-- a new thread where the start was done
 abbrev pub begun : World → Value → Answer → List Thread → List Thread
 begun w object Done ts = ts ++ record { start = Runs (runnable_of w object); had = [] } ∷ []
 begun w object _ ts = ts
@@ -42,16 +43,19 @@ abbrev pub with_new : World → Step → Answer → List Thread → List Thread
 with_new w (v.Start object) a ts = begun w object a ts
 with_new w _ a ts = ts
 
+-- a step with its answer goes to the thread's answers; a blocked one changes nothing
 abbrev pub replied : World → List Thread → ℕ → Thread → Step → Reply → After
 replied w ts i t p None = record { item = Blocked i p; world = w; threads = ts }
 replied w ts i t p (Some (w', a)) =
     record { item = Stepped i p a; world = w'; threads = with_new w p a (slice_set ts i (record t { had = t.had ++ a ∷ [] })) }
 
+-- a step is asked of the world; Busy and ended change nothing
 abbrev pub turned : World → List Thread → ℕ → Thread → Turn → After
 turned w ts i t (Next p) = replied w ts i t p (answer w i p)
 turned w ts i t IsBusy = record { item = WasBusy i; world = w; threads = ts }
 turned w ts i t Ended = record { item = HadEnded i; world = w; threads = ts }
 
+-- the turn of the thread with this number, where there is one
 abbrev pub turn_of : Behavior → ℕ → World → List Thread → ℕ → Option Thread → After
 turn_of next n w ts i None = record { item = Missing i; world = w; threads = ts }
 turn_of next n w ts i (Some t) = turned w ts i t (next t.start t.had n)
@@ -68,6 +72,7 @@ world_after next n w ts [] = w
 world_after next n w ts (i ∷ schedule) =
     let after = turn_of next n w ts i (slice_get ts i) in world_after next n after.world after.threads schedule
 
+-- the item is a Torn
 abbrev pub IsTorn : Item → Type 0
 IsTorn (Stepped i p a) = p ≡ Torn
 IsTorn (Blocked i p) = p ≡ Torn

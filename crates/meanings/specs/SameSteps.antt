@@ -16,13 +16,15 @@ Entries java entry = entry ≡ record { class = java.name; method = codes "main"
 abbrev pub Renames : JClass → Name → Name → Name
 Renames java class method = method
 
+-- an entry point under the recorded names
 abbrev pub renamed : JClass → Entry → Entry
 renamed java entry = record { class = entry.class; method = Renames java entry.class entry.method }
 
--- what the Java class does, and what the Kotlin class does
+-- what the Java class does
 abbrev pub JavaRun : JClass → Entry → Input → List ℕ → ℕ → List Item
 JavaRun java = run_of (java_program java)
 
+-- what the Kotlin class does
 abbrev pub KotlinRun : KClass → Entry → Input → List ℕ → ℕ → List Item
 KotlinRun kotlin = run_of (kotlin_program kotlin)
 

@@ -27,13 +27,16 @@ is_non_null (ArrayType type) = true
 pub record Static : Type 0 where
   pub locals : List (Name × KType)
 
+-- the newest declaration of a name
 abbrev pub declared_in : List (Name × KType) → Name → Option KType
 declared_in [] name = None
 declared_in (e ∷ locals) name = if same_name e.0 name then Some e.1 else declared_in locals name
 
+-- the declared type of a local or parameter
 abbrev pub declared : Static → Name → Option KType
 declared static name = declared_in static.locals name
 
+-- one more declaration
 abbrev pub with_local : Static → Name → KType → Static
 with_local static name type = record static { locals = (name, type) ∷ static.locals }
 
@@ -41,6 +44,7 @@ with_local static name type = record static { locals = (name, type) ∷ static.l
 abbrev pub main_static : Static
 main_static = record { locals = (codes "args", ArrayType StringType) ∷ [] }
 
+-- a name has its declared type, a literal is an `Int` (Kotlin, "Integer literals")
 abbrev pub type_of_operand : Static → KOperand → Option KType
 type_of_operand static (Local name) = declared static name
 type_of_operand static (Number n) = Some IntType
@@ -50,6 +54,7 @@ abbrev pub type_of_binary : Option KType → Option KType → Option KType
 type_of_binary (Some IntType) (Some IntType) = Some IntType
 type_of_binary _ _ = None
 
+-- the type of an expression, where it has one
 abbrev pub type_of : Static → KExpr → Option KType
 type_of static (Operand a) = type_of_operand static a
 type_of static (Binary a operator b) = type_of_binary (type_of_operand static a) (type_of_operand static b)

@@ -10,15 +10,18 @@ use Rattle.std.specs.Fmt.{signed_decimal}
 abbrev pub Name : Type 0
 Name = List ℕ
 
+-- names are compared byte by byte (own rule)
 abbrev pub same_name : Name → Name → Bool
 same_name [] [] = true
 same_name (b ∷ x) (c ∷ y) = (b == c) && same_name x y
 same_name _ _ = false
 
+-- a name is one of these
 abbrev pub is_among : List Name → Name → Bool
 is_among [] name = false
 is_among (first ∷ names) name = if same_name first name then true else is_among names name
 
+-- two truth values are the same
 abbrev pub same_flag : Bool → Bool → Bool
 same_flag true b = b
 same_flag false true = false
@@ -36,9 +39,11 @@ pub record Site : Type 0 where
   pub is_static : Bool
   pub ordinal : ℕ
 
+-- a field is known by its class and its name (own rule)
 abbrev pub same_field : Field → Field → Bool
 same_field f g = same_name f.class g.class && same_name f.name g.name
 
+-- a site is known by its class, its part and its place there (own rule)
 abbrev pub same_site : Site → Site → Bool
 same_site a b = same_name a.class b.class && same_flag a.is_static b.is_static && (a.ordinal == b.ordinal)
 
@@ -81,12 +86,14 @@ mutual
     NoMore : Captured
     Capture : Value → Captured → Captured
 
+-- the captured values in order
 abbrev pub captured_list : Captured → List Value
 captured_list NoMore = []
 captured_list (Capture v more) = v ∷ captured_list more
 
 -- ---- when two values are the same (own rule: a reference is known by all that it carries)
 
+-- a number for each kind, by which kinds are told apart
 abbrev pub kind_number : Kind → ℕ
 kind_number Byte = 0
 kind_number Short = 1
@@ -94,11 +101,13 @@ kind_number Char = 2
 kind_number Int = 3
 kind_number Long = 4
 
+-- two whole numbers are the same
 abbrev pub same_integer : ℤ → ℤ → Bool
 same_integer (pos m) (pos n) = m == n
 same_integer (negsuc m) (negsuc n) = m == n
 same_integer _ _ = false
 
+-- two arrays hold the same
 abbrev pub same_elements : Elements → Elements → Bool
 same_elements (Integers k) (Integers l) = kind_number k == kind_number l
 same_elements Booleans Booleans = true
@@ -168,6 +177,7 @@ pub data Step : Type 0 where
   -- null at a place of a non-null type: Kotlin only (own rule)
   Torn : Step
 
+-- What the world answers (own rule). Run, Mine, Ready and Failed answer a Touch (JLS 12.4.2).
 pub data Answer : Type 0 where
   Ready : Answer
   Run : Answer
@@ -189,6 +199,7 @@ abbrev pub is_true : Value → Bool
 is_true (Boolean b) = b
 is_true _ = false
 
+-- the null reference (JLS 4.1)
 abbrev pub is_null : Value → Bool
 is_null Null = true
 is_null _ = false

@@ -38,6 +38,7 @@ Reply = Option (World × Answer)
 
 -- ---- classes
 
+-- the newest state of a class
 abbrev pub state_of : List (Name × ClassState) → Name → ClassState
 state_of [] class = Untouched
 state_of (e ∷ more) class = if same_name e.0 class then e.1 else state_of more class
@@ -58,6 +59,7 @@ ended_class classes thread class well IsFailed = classes
 
 -- ---- the heap
 
+-- an object in which nothing was stored
 abbrev pub no_content : Content
 no_content = record { fields = []; elements = [] }
 
@@ -68,20 +70,25 @@ number_of (Array elements size k) = Some k
 number_of (Lambda site k captured) = Some k
 number_of _ = None
 
+-- what stands on the heap at a number; elsewhere nothing
 abbrev pub content_at : List Content → Option ℕ → Content
 content_at heap None = no_content
 content_at heap (Some k) = slice_index_or heap k no_content
 
+-- the heap with another content at a number
 abbrev pub with_content : List Content → Option ℕ → Content → List Content
 with_content heap None content = heap
 with_content heap (Some k) content = slice_set heap k content
 
+-- what the object of a reference holds
 abbrev pub content_of : World → Value → Content
 content_of w v = content_at w.heap (number_of v)
 
+-- the world with other fields in an object
 abbrev pub with_fields : World → Value → List (Field × Value) → World
 with_fields w v fields = record w { heap = with_content w.heap (number_of v) (record (content_of w v) { fields = fields }) }
 
+-- the world with other elements in an object
 abbrev pub with_elements : World → Value → List Value → World
 with_elements w v elements = record w { heap = with_content w.heap (number_of v) (record (content_of w v) { elements = elements }) }
 
@@ -90,6 +97,7 @@ abbrev pub stored : List (Field × Value) → Field → Value → Value
 stored [] field other = other
 stored (e ∷ more) field other = if same_field e.0 field then e.1 else stored more field other
 
+-- a field gives what was stored last, or its default (JLS 4.12.5)
 abbrev pub stored_or_default : World → List (Field × Value) → Field → Value
 stored_or_default w fields field = stored fields field (stored w.defaults field Null)
 
@@ -100,18 +108,21 @@ default_element Booleans = Boolean false
 default_element (Objects class) = Null
 default_element (Arrays elements) = Null
 
+-- what a new object holds (JLS 12.5, 15.10.1, 10.6)
 abbrev pub content_in : Shape → Content
 content_in (AnObject class) = no_content
 content_in (AnArray elements size) = record { fields = []; elements = replicate size (default_element elements) }
 content_in (AnArrayOf elements vs) = record { fields = []; elements = vs }
 content_in (ALambda site captured) = no_content
 
+-- the reference to a new object with this number
 abbrev pub reference : Shape → ℕ → Value
 reference (AnObject class) k = Object class k
 reference (AnArray elements size) k = Array elements size k
 reference (AnArrayOf elements vs) k = Array elements (length vs) k
 reference (ALambda site captured) k = Lambda site k captured
 
+-- the world with one more object, under the next number
 abbrev pub with_object : World → Content → World
 with_object w content = record w { heap = w.heap ++ content ∷ [] }
 
@@ -121,10 +132,12 @@ exception_content = record { fields = []; elements = Units [] ∷ [] }
 
 -- ---- monitors
 
+-- the newest hold of a monitor; at first it is free (JLS 17.1)
 abbrev pub hold_of : List (Value × Hold) → Value → Hold
 hold_of [] v = record { owner = 0; count = 0 }
 hold_of (e ∷ more) v = if same_value e.0 v then e.1 else hold_of more v
 
+-- the world with another hold of a monitor
 abbrev pub with_hold : World → Value → ℕ → ℕ → World
 with_hold w v thread count = record w { monitors = (v, record { owner = thread; count = count }) ∷ w.monitors }
 
@@ -140,14 +153,17 @@ exited w thread v owner (suc k) = if owner == thread then with_hold w v thread k
 
 -- ---- threads
 
+-- a thread with this object was started
 abbrev pub was_started : List Status → Value → Bool
 was_started [] v = false
 was_started (t ∷ threads) v = if same_value t.object v then true else was_started threads v
 
+-- a thread with this object was started and has not ended (JLS 17.4.4)
 abbrev pub is_running : List Status → Value → Bool
 is_running [] v = false
 is_running (t ∷ threads) v = if same_value t.object v then (if t.ended then is_running threads v else true) else is_running threads v
 
+-- the thread with this number has ended
 abbrev pub ended_thread : List Status → ℕ → List Status
 ended_thread [] k = []
 ended_thread (t ∷ threads) zero = record t { ended = true } ∷ threads
@@ -160,6 +176,7 @@ start_answer w v false = Some (record w { threads = w.threads ++ record { object
 
 -- ---- input, and the library
 
+-- the next byte, or -1 at the end (java.io.InputStream.read)
 abbrev pub read_answer : World → List ℕ → Reply
 read_answer w [] = Some (w, Given (Integer Int (negsuc 0)))
 read_answer w (b ∷ input) = Some (record w { input = input }, Given (Integer Int (pos b)))
@@ -171,6 +188,7 @@ library_answer w vs (Some row) = Some (record w { heap = (row w.heap vs).0 }, (r
 
 -- ---- the answer to a step of the thread with this number
 
+-- one clause a step (own rule: the steps and answers of the profile)
 abbrev pub answer : World → ℕ → Step → Reply
 answer w thread (Touch class) = touch_answer w thread class (state_of w.classes class)
 answer w thread (InitEnd class well) = Some (record w { classes = ended_class w.classes thread class well (state_of w.classes class) }, Done)
