@@ -1,4 +1,4 @@
--- The Kotlin of a well typed class is well typed.
+-- The Kotlin of a well typed class is well typed, and its canonical text spells it.
 use Rattle.std.proofs.Common.{◌≡◌, Bool, true, false, List, [], ◌∷◌, Option, Some, None, map, if◌then◌else◌, refl}
 use Rattle.std.specs.Prelude.{codes}
 use Rattle.meanings.specs.declared.java.JOperand.{JOperand}
@@ -11,7 +11,9 @@ use Rattle.meanings.specs.Convert.{operand_of, expression_of, statement_of}
 use Rattle.meanings.specs.Values.{Name, same_name, is_among}
 use Rattle.meanings.specs.Static.{KType, IntType, Static, declared, with_local, type_of, type_of_operand, IsTyped, main_static}
 use Rattle.meanings.specs.JTyped.{KnowsOperand, Knows, AreTyped}
-use Rattle.meanings.specs.Laws.{TypesAreKept}
+use Rattle.meanings.specs.JNamed.{IsNamedOperand, IsNamed, AreNamed}
+use Rattle.meanings.specs.KSpells.{IsOperand, IsExpression, AreStatements}
+use Rattle.meanings.specs.Laws.{TypesAreKept, SpellingIsKept}
 
 -- the declared types are `Int` at the locals, and nothing is declared but they and the parameter
 record Fits (locals : List Name) (static : Static) : Type 0 where
@@ -48,3 +50,21 @@ statements_typed locals static h (Print e ∷ body) typed = (expression_typed lo
 
 pub types_are_kept : TypesAreKept
 types_are_kept class typed = statements_typed [] main_static (record { known = λ name e. cc; unknown = λ name apart e. rw apart refl }) class.main typed
+
+-- ---- names and literals
+
+operand_named : (a : JOperand) → IsNamedOperand a → IsOperand (operand_of a)
+operand_named (LocalName name) h = h
+operand_named (Number n) h = h
+
+expression_named : (e : JExpr) → IsNamed e → IsExpression (expression_of e)
+expression_named (Operand a) h = operand_named a h
+expression_named (Binary a operator b) h = (operand_named a h.0, operand_named b h.1)
+
+statements_named : (body : List JStmt) → AreNamed body → AreStatements (map statement_of body)
+statements_named [] h = tt
+statements_named (Local name e ∷ body) h = (h.0, expression_named e h.1, statements_named body h.2)
+statements_named (Print e ∷ body) h = (expression_named e h.0, statements_named body h.1)
+
+pub spelling_is_kept : SpellingIsKept
+spelling_is_kept class h = record { name = h.name; main = statements_named class.main h.main; text = refl }

@@ -4,6 +4,9 @@ use Rattle.meanings.specs.declared.java.JClass.{JClass}
 use Rattle.meanings.specs.Values.{Name, same_name, Field, Value, same_value, Step, Touch, InitEnd, Alloc, Put, PutStatic, PutElem, Enter, Exit, Print, ReadByte, Lib, Raise, Start as StartStep, End, Answer}
 use Rattle.meanings.specs.Convert.{class_of}
 use Rattle.meanings.specs.JTyped.{JTyped}
+use Rattle.meanings.specs.JNamed.{JNamed}
+use Rattle.meanings.specs.KSpells.{KSpells}
+use Rattle.meanings.specs.KText.{KText}
 use Rattle.meanings.specs.Static.{KTyped}
 use Rattle.meanings.specs.Program.{Program, Start, thread, thread_at}
 use Rattle.meanings.specs.World.{World, IsReady, IsFailed, state_of, hold_of, answer}
@@ -18,6 +21,10 @@ SameIsEqual = (v w : Value) → (same_value v w ≡ true) ↔ (v ≡ w)
 -- the Kotlin of a well typed class is well typed
 abbrev pub TypesAreKept : Type 0
 TypesAreKept = (class : JClass) → JTyped class → KTyped (class_of class)
+
+-- the canonical text of the Kotlin of a class spells it
+abbrev pub SpellingIsKept : Type 0
+SpellingIsKept = (class : JClass) → JNamed class → KSpells (class_of class) (KText (class_of class))
 
 -- ---- threads
 

@@ -14,5 +14,6 @@ pub mod Kotlin
 pub mod Entries
 pub mod SameSteps
 pub mod Laws
+pub mod JNamed
 pub mod JTyped
 pub mod KSpells

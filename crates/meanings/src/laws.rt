@@ -6,7 +6,7 @@ ghost use Rattle.meanings.specs.Convert.{class_of};
 ghost use Rattle.meanings.specs.Java.{java_program};
 ghost use Rattle.meanings.specs.Kotlin.{kotlin_program};
 ghost use Rattle.meanings.specs.SameSteps.{SameSteps};
-ghost use Rattle.meanings.specs.Laws.{SameIsEqual, SameAtEveryDepth, EqualRuns, OnlyStepsChange, OneAnswer, ChangesOnlyWhatItSays, RunsGrow, TypesAreKept};
+ghost use Rattle.meanings.specs.Laws.{SameIsEqual, SameAtEveryDepth, EqualRuns, OnlyStepsChange, OneAnswer, ChangesOnlyWhatItSays, RunsGrow, SpellingIsKept, TypesAreKept};
 ghost use Rattle.meanings.specs.KSpells.{SpellsOne};
 
 /// The Kotlin of a class makes exactly the steps of the class, in every run, and Torn never comes.
@@ -54,4 +54,9 @@ pub fn types_are_kept()
 /// Bytes spell at most one Kotlin tree.
 pub fn spells_one()
     ensures { SpellsOne }
+{}
+
+/// The canonical text of the Kotlin of a class spells it.
+pub fn spelling_is_kept()
+    ensures { SpellingIsKept }
 {}
