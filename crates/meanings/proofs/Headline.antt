@@ -1,6 +1,5 @@
 -- The headline's theorem: the Kotlin of a class makes the steps of the class, in every run.
-use Rattle.std.proofs.Common.{◌≡◌, ◌≢◌, ℕ, zero, suc, Bool, true, false, ◌&&◌, List, [], ◌∷◌, ◌++◌, map, Option, Some, None, slice_get, slice_set, if◌then◌else◌, refl, sym, ◌∙◌, subst}
-use Rattle.std.specs.Prelude.{codes}
+use Rattle.std.proofs.Common.{◌≡◌, ◌≢◌, ℕ, zero, suc, List, [], ◌∷◌, ◌++◌, map, Option, Some, None, slice_get, slice_set, refl, sym, ◌∙◌, subst}
 use Rattle.meanings.specs.declared.java.JOperand.{JOperand}
 use Rattle.meanings.specs.declared.java.JOperand.TheVariants.{Local as LocalName, Number}
 use Rattle.meanings.specs.declared.java.JExpr.{JExpr}
@@ -9,9 +8,9 @@ use Rattle.meanings.specs.declared.java.JStmt.{JStmt}
 use Rattle.meanings.specs.declared.java.JStmt.TheVariants.{Local, Print}
 use Rattle.meanings.specs.declared.java.JClass.{JClass}
 use Rattle.meanings.specs.Convert.{class_of}
-use Rattle.meanings.specs.Values.{Name, Site, Value, Step, Touch, InitEnd, Alloc, Built, Get, Put, GetStatic, PutStatic, GetElem, PutElem, Enter, Exit, Print as PrintStep, ReadByte, Lib, Raise, Start as StartStep, Join, End, Torn, Answer, Ready, Run, Mine, Failed, Done, Given, Raised}
+use Rattle.meanings.specs.Values.{Site, Value, Step, Touch, InitEnd, Alloc, Built, Get, Put, GetStatic, PutStatic, GetElem, PutElem, Enter, Exit, Print as PrintStep, ReadByte, Lib, Raise, Start as StartStep, Join, End, Torn, Answer, Ready, Run, Mine, Failed, Done, Given, Raised}
 use Rattle.meanings.specs.Machine.{Place}
-use Rattle.meanings.specs.Program.{main_entry, Turn, Next, IsBusy, Ended, Start, Enters}
+use Rattle.meanings.specs.Program.{main_entry, Turn, Next, IsBusy, Ended, Start}
 use Rattle.meanings.specs.World.{World, Reply, answer}
 use Rattle.meanings.specs.Runs.{Thread, Behavior, begun, with_new, replied, turned, turn_of, run, NeverTorn}
 use Rattle.meanings.specs.Java.{java_operand, java_expr, java_stmt, java_program, JavaThread}

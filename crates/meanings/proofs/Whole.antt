@@ -1,41 +1,17 @@
 -- Laws of whole runs.
-use Rattle.std.proofs.Common.{◌≡◌, ℕ, suc, true, false, List, [], ◌∷◌, ◌++◌, Option, Some, None, slice_get, refl, sym, ap, ◌∙◌, append_assoc}
+use Rattle.std.proofs.Common.{◌≡◌, ℕ, suc, true, List, [], ◌∷◌, ◌++◌, Option, Some, None, slice_get, refl, sym, ap, ◌∙◌, append_assoc}
 use Rattle.std.proofs.lemmas.List.{append-nil}
 use Rattle.meanings.specs.Values.{Name, Step}
 use Rattle.meanings.specs.Program.{Turn, Next, IsBusy, Ended}
 use Rattle.meanings.specs.World.{World, Reply, IsReady, state_of, answer}
 use Rattle.meanings.specs.Runs.{Item, Stepped, Blocked, WasBusy, HadEnded, Missing, Thread, Behavior, After, replied, turned, turn_of, run}
-use Rattle.meanings.specs.Laws.{EqualRuns, is_step, OnlyStepsChange, OneAnswer, printed, Answered, all_printed, Grows, RunsGrow}
+use Rattle.meanings.specs.Laws.{EqualRuns, printed, Answered, all_printed, Grows, RunsGrow}
 use Rattle.meanings.proofs.RunLaws.{run_same}
 use Rattle.meanings.proofs.Answers.{answer_says}
 
 pub equal_runs : EqualRuns
 equal_runs next next' n holds keeps same w ts h schedule =
     run_same next next' n (λ w ts. holds w ts ≡ true) same.same (record { kept = keeps.kept }) w ts h schedule
-
-pub one_answer : OneAnswer
-one_answer w thread p r r' e e' = let same : Some r ≡ Some r' = sym e ∙ e' in cc
-
--- ---- a turn that is no step
-
-abbrev Unchanged : World → List Thread → After → Type 0
-Unchanged w ts after = is_step after.item ≡ false → (after.world ≡ w) × (after.threads ≡ ts)
-
-replied_unchanged : (w : World) (ts : List Thread) (i : ℕ) (t : Thread) (p : Step) (r : Reply) → Unchanged w ts (replied w ts i t p r)
-replied_unchanged w ts i t p None e = (refl, refl)
-replied_unchanged w ts i t p (Some reply) e = cc
-
-turned_unchanged : (w : World) (ts : List Thread) (i : ℕ) (t : Thread) (r : Turn) → Unchanged w ts (turned w ts i t r)
-turned_unchanged w ts i t (Next p) e = replied_unchanged w ts i t p (answer w i p) e
-turned_unchanged w ts i t IsBusy e = (refl, refl)
-turned_unchanged w ts i t Ended e = (refl, refl)
-
-turn_unchanged : (next : Behavior) (n : ℕ) (w : World) (ts : List Thread) (i : ℕ) (o : Option Thread) → Unchanged w ts (turn_of next n w ts i o)
-turn_unchanged next n w ts i None e = (refl, refl)
-turn_unchanged next n w ts i (Some t) e = turned_unchanged w ts i t (next t.start t.had n) e
-
-pub only_steps_change : OnlyStepsChange
-only_steps_change next n w ts i = turn_unchanged next n w ts i (slice_get ts i)
 
 -- ---- the output grows
 

@@ -1,5 +1,5 @@
 -- Which classes of this form have names and literals that Java and Kotlin spell alike.
-use Rattle.std.specs.Prelude.{ℕ, ◌<◌, ◌^◌, List, [], ◌∷◌}
+use Rattle.std.specs.Prelude.{◌<◌, ◌^◌, List, [], ◌∷◌}
 use Rattle.meanings.specs.declared.java.JOperand.{JOperand}
 use Rattle.meanings.specs.declared.java.JOperand.TheVariants.{Local as LocalName, Number}
 use Rattle.meanings.specs.declared.java.JExpr.{JExpr}
