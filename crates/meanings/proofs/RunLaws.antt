@@ -3,7 +3,7 @@ use Rattle.std.proofs.Common.{◌≡◌, ◌≢◌, ℕ, List, [], ◌∷◌, Op
 use Rattle.meanings.specs.Values.{Step, Torn}
 use Rattle.meanings.specs.Program.{Start, Turn, Next, IsBusy, Ended}
 use Rattle.meanings.specs.World.{World, Reply, answer}
-use Rattle.meanings.specs.Runs.{Thread, Behavior, After, replied, turned, turn_of, run, IsTorn, NeverTorn}
+use Rattle.meanings.specs.Runs.{Item, Thread, Behavior, After, replied, turned, turn_of, run, IsTorn, NeverTorn}
 
 -- What holds of the world and the threads, and is kept by each turn of one behaviour.
 pub record Kept (next : Behavior) (n : ℕ) (Holds : World → List Thread → Type 0) : Type 0 where
@@ -20,6 +20,24 @@ module _ (next next' : Behavior) (n : ℕ) (Holds : World → List Thread → Ty
   run_same keeps w ts h (i ∷ schedule) =
       ap (λ items. (turn_of next n w ts i (slice_get ts i)).item ∷ items) (run_same keeps (turn_of next n w ts i (slice_get ts i)).world (turn_of next n w ts i (slice_get ts i)).threads (keeps.kept w ts i h) schedule)
       ∙ ap (λ (a : After). a.item ∷ run next' n a.world a.threads schedule) (turn_of_same w ts h i (slice_get ts i) refl)
+
+-- ---- two worlds
+
+-- what relates two worlds and the threads, so that a turn records the same in both and leaves the same threads
+pub record Matching (next next' : Behavior) (n : ℕ) (Holds : World → World → List Thread → Type 0) : Type 0 where
+  pub item : (w w' : World) (ts : List Thread) (i : ℕ) → Holds w w' ts → (turn_of next n w ts i (slice_get ts i)).item ≡ (turn_of next' n w' ts i (slice_get ts i)).item
+  pub threads : (w w' : World) (ts : List Thread) (i : ℕ) → Holds w w' ts → (turn_of next n w ts i (slice_get ts i)).threads ≡ (turn_of next' n w' ts i (slice_get ts i)).threads
+  pub kept : (w w' : World) (ts : List Thread) (i : ℕ) → Holds w w' ts → Holds (turn_of next n w ts i (slice_get ts i)).world (turn_of next' n w' ts i (slice_get ts i)).world (turn_of next n w ts i (slice_get ts i)).threads
+
+pub run_matching : (next next' : Behavior) (n : ℕ) (Holds : World → World → List Thread → Type 0) → Matching next next' n Holds →
+    (w w' : World) (ts : List Thread) → Holds w w' ts → (schedule : List ℕ) → run next n w ts schedule ≡ run next' n w' ts schedule
+run_matching next next' n Holds m w w' ts h [] = refl
+run_matching next next' n Holds m w w' ts h (i ∷ schedule) =
+    let k : After = turn_of next n w ts i (slice_get ts i) in
+    let j : After = turn_of next' n w' ts i (slice_get ts i) in
+    ap (λ items. k.item ∷ items) (run_matching next next' n Holds m k.world j.world k.threads (m.kept w w' ts i h) schedule)
+    ∙ ap (λ (ts' : List Thread). k.item ∷ run next' n j.world ts' schedule) (m.threads w w' ts i h)
+    ∙ ap (λ (item : Item). item ∷ run next' n j.world j.threads schedule) (m.item w w' ts i h)
 
 -- ---- Torn
 

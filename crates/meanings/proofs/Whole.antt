@@ -5,13 +5,17 @@ use Rattle.meanings.specs.Values.{Name, Step}
 use Rattle.meanings.specs.Program.{Turn, Next, IsBusy, Ended}
 use Rattle.meanings.specs.World.{World, Reply, IsReady, state_of, answer}
 use Rattle.meanings.specs.Runs.{Item, Stepped, Blocked, WasBusy, HadEnded, Missing, Thread, Behavior, After, replied, turned, turn_of, run}
-use Rattle.meanings.specs.Laws.{EqualRuns, printed, Answered, all_printed, Grows, RunsGrow}
-use Rattle.meanings.proofs.RunLaws.{run_same}
+use Rattle.meanings.specs.Laws.{EqualRuns, MatchingRuns, printed, Answered, all_printed, Grows, RunsGrow}
+use Rattle.meanings.proofs.RunLaws.{run_same, run_matching}
 use Rattle.meanings.proofs.Answers.{answer_says}
 
 pub equal_runs : EqualRuns
 equal_runs next next' n holds keeps same w ts h schedule =
     run_same next next' n (λ w ts. holds w ts ≡ true) same.same (record { kept = keeps.kept }) w ts h schedule
+
+pub matching_runs : MatchingRuns
+matching_runs next next' n holds m =
+    run_matching next next' n (λ w w' ts. holds w w' ts ≡ true) (record { item = m.item; threads = m.threads; kept = m.kept })
 
 -- ---- the output grows
 

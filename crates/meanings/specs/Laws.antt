@@ -47,6 +47,18 @@ abbrev pub EqualRuns : Type 0
 EqualRuns = (next next' : Behavior) (n : ℕ) (holds : World → List Thread → Bool) → IsKept next n holds → SameThreads next next' n holds →
     (w : World) (ts : List Thread) → holds w ts ≡ true → (schedule : List ℕ) → run next n w ts schedule ≡ run next' n w ts schedule
 
+-- A test that relates two worlds and the threads: where it holds, a turn records the same in both and leaves the same threads, and it holds again.
+-- Two worlds need not be equal: a field that is stored before each read may have another default in each language.
+pub record MatchingTurns (next next' : Behavior) (n : ℕ) (holds : World → World → List Thread → Bool) : Type 0 where
+  pub item : (w w' : World) (ts : List Thread) (i : ℕ) → holds w w' ts ≡ true → (turn_of next n w ts i (slice_get ts i)).item ≡ (turn_of next' n w' ts i (slice_get ts i)).item
+  pub threads : (w w' : World) (ts : List Thread) (i : ℕ) → holds w w' ts ≡ true → (turn_of next n w ts i (slice_get ts i)).threads ≡ (turn_of next' n w' ts i (slice_get ts i)).threads
+  pub kept : (w w' : World) (ts : List Thread) (i : ℕ) → holds w w' ts ≡ true → holds (turn_of next n w ts i (slice_get ts i)).world (turn_of next' n w' ts i (slice_get ts i)).world (turn_of next n w ts i (slice_get ts i)).threads ≡ true
+
+-- matching turns give equal runs, also from worlds that aren't equal
+abbrev pub MatchingRuns : Type 0
+MatchingRuns = (next next' : Behavior) (n : ℕ) (holds : World → World → List Thread → Bool) → MatchingTurns next next' n holds →
+    (w w' : World) (ts : List Thread) → holds w w' ts ≡ true → (schedule : List ℕ) → run next n w ts schedule ≡ run next' n w' ts schedule
+
 -- the item is a step with its answer
 abbrev pub is_step : Item → Bool
 is_step (Stepped i p a) = true

@@ -6,7 +6,7 @@ ghost use Rattle.meanings.specs.Convert.{class_of};
 ghost use Rattle.meanings.specs.Java.{java_program};
 ghost use Rattle.meanings.specs.Kotlin.{kotlin_program};
 ghost use Rattle.meanings.specs.SameSteps.{SameSteps};
-ghost use Rattle.meanings.specs.Laws.{SameIsEqual, SameAtEveryDepth, EqualRuns, OnlyStepsChange, OneAnswer, ChangesOnlyWhatItSays, RunsGrow, SpellingIsKept, TypesAreKept};
+ghost use Rattle.meanings.specs.Laws.{SameIsEqual, SameAtEveryDepth, EqualRuns, MatchingRuns, OnlyStepsChange, OneAnswer, ChangesOnlyWhatItSays, RunsGrow, SpellingIsKept, TypesAreKept};
 ghost use Rattle.meanings.specs.KSpells.{SpellsOne};
 
 /// The Kotlin of a class makes exactly the steps of the class, in every run, and Torn never comes.
@@ -20,9 +20,10 @@ pub fn same_at_every_depth()
     ensures kotlin { (class : KClass) → SameAtEveryDepth (kotlin_program class) }
 {}
 
-/// Equal threads, under an invariant that each turn keeps, give equal runs for every schedule.
+/// Equal threads, under an invariant that each turn keeps, give equal runs for every schedule; so do matching turns from two worlds.
 pub fn equal_runs()
-    ensures { EqualRuns }
+    ensures equal { EqualRuns }
+    ensures matching { MatchingRuns }
 {}
 
 /// A step has one answer at most, and a turn that is no step, as a blocked one, changes nothing.
