@@ -11,3 +11,4 @@ pub mod Answers
 pub mod Whole
 pub mod Typed
 pub mod Spelling
+pub mod Numbers

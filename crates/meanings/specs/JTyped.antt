@@ -19,7 +19,7 @@ abbrev pub Knows : List Name → JExpr → Type 0
 Knows locals (Operand a) = KnowsOperand locals a
 Knows locals (Binary a operator b) = KnowsOperand locals a × KnowsOperand locals b
 
--- a local has another name than each local before it and the parameter (JLS 6.4); its initializer stands before its scope begins in this form
+-- a local has another name than the parameter and each local before it (JLS 6.4), and its initializer uses only those before it (JLS 16)
 abbrev pub AreTyped : List Name → List JStmt → Type 0
 AreTyped locals [] = Unit {0}
 AreTyped locals (Local name value ∷ more) = (same_name (codes "args") name ≡ false) × (is_among locals name ≡ false) × Knows locals value × AreTyped (name ∷ locals) more

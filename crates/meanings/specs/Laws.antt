@@ -72,6 +72,11 @@ abbrev pub OnlyStepsChange : Type 0
 OnlyStepsChange = (next : Behavior) (n : ℕ) (w : World) (ts : List Thread) (i : ℕ) → is_step (turn_of next n w ts i (slice_get ts i)).item ≡ false →
     ((turn_of next n w ts i (slice_get ts i)).world ≡ w) × ((turn_of next n w ts i (slice_get ts i)).threads ≡ ts)
 
+-- the world and the run number the same threads: this is kept by each turn
+abbrev pub ThreadsAgree : Type 0
+ThreadsAgree = (next : Behavior) (n : ℕ) (w : World) (ts : List Thread) (i : ℕ) → length w.threads ≡ length ts →
+    length (turn_of next n w ts i (slice_get ts i)).world.threads ≡ length (turn_of next n w ts i (slice_get ts i)).threads
+
 -- ---- answers
 
 -- a step has one answer at most

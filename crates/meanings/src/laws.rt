@@ -6,7 +6,7 @@ ghost use Rattle.meanings.specs.Convert.{class_of};
 ghost use Rattle.meanings.specs.Java.{java_program};
 ghost use Rattle.meanings.specs.Kotlin.{kotlin_program};
 ghost use Rattle.meanings.specs.SameSteps.{SameSteps};
-ghost use Rattle.meanings.specs.Laws.{SameIsEqual, SameAtEveryDepth, EqualRuns, MatchingRuns, OnlyStepsChange, OneAnswer, ChangesOnlyWhatItSays, RunsGrow, SpellingIsKept, TypesAreKept};
+ghost use Rattle.meanings.specs.Laws.{SameIsEqual, SameAtEveryDepth, EqualRuns, MatchingRuns, OnlyStepsChange, ThreadsAgree, OneAnswer, ChangesOnlyWhatItSays, RunsGrow, SpellingIsKept, TypesAreKept};
 ghost use Rattle.meanings.specs.KSpells.{SpellsOne};
 
 /// The Kotlin of a class makes exactly the steps of the class, in every run, and Torn never comes.
@@ -30,6 +30,11 @@ pub fn equal_runs()
 pub fn one_answer()
     ensures one { OneAnswer }
     ensures unchanged { OnlyStepsChange }
+{}
+
+/// The world and a run number the same threads: each turn keeps that.
+pub fn threads_agree()
+    ensures { ThreadsAgree }
 {}
 
 /// An answer changes nothing but what it says.
