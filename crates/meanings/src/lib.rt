@@ -3,4 +3,5 @@
 
 pub mod java;
 pub mod kotlin;
+pub mod laws;
 pub mod operators;

@@ -1,0 +1,93 @@
+-- The texts of this form enter no body, so every larger depth gives the same thread in both languages.
+use Rattle.std.proofs.Common.{ℕ, List, [], ◌∷◌, map}
+use Rattle.meanings.specs.declared.java.JOperand.{JOperand}
+use Rattle.meanings.specs.declared.java.JOperand.TheVariants.{Local as LocalName, Number}
+use Rattle.meanings.specs.declared.java.JExpr.{JExpr}
+use Rattle.meanings.specs.declared.java.JExpr.TheVariants.{Operand, Binary}
+use Rattle.meanings.specs.declared.java.JStmt.{JStmt}
+use Rattle.meanings.specs.declared.java.JStmt.TheVariants.{Local, Print}
+use Rattle.meanings.specs.declared.java.JClass.{JClass}
+use Rattle.meanings.specs.declared.kotlin.KOperand.{KOperand}
+use Rattle.meanings.specs.declared.kotlin.KOperand.TheVariants as ko
+use Rattle.meanings.specs.declared.kotlin.KExpr.{KExpr}
+use Rattle.meanings.specs.declared.kotlin.KExpr.TheVariants as ke
+use Rattle.meanings.specs.declared.kotlin.KStmt.{KStmt}
+use Rattle.meanings.specs.declared.kotlin.KStmt.TheVariants as ks
+use Rattle.meanings.specs.declared.kotlin.KClass.{KClass}
+use Rattle.meanings.specs.Values.{Value, is_null}
+use Rattle.meanings.specs.Outcome.{torn}
+use Rattle.meanings.specs.Values.{Torn}
+use Rattle.meanings.specs.Machine.{Place}
+use Rattle.meanings.specs.Static.{KType, is_non_null, Static, declared, extended}
+use Rattle.meanings.specs.Java.{java_operand, java_expr, java_stmt, java_program}
+use Rattle.meanings.specs.Kotlin.{used, kotlin_operand, kotlin_expr, kotlin_stmt, kotlin_stmts, kotlin_program}
+use Rattle.std.specs.Prelude.{Option, Some, None, ◌&&◌}
+use Rattle.meanings.specs.Laws.{SameAtEveryDepth}
+use Rattle.meanings.proofs.Depth.{asks, Within, with_bodies, AllWithin, none, more, bind_within, step_within, pure_within, local_within, assign_within, if_within, print_line_within, arithmetic_within, binary_within, sequence_within, WithinProgram, deeper}
+
+-- ---- Java
+
+module _ {w : ℕ} (p q : Place) where
+  java_operand_within : (a : JOperand) → Within w (java_operand p a) (java_operand q a)
+  java_operand_within (LocalName name) = local_within name
+  java_operand_within (Number n) = pure_within _
+
+  java_expr_within : (e : JExpr) → Within w (java_expr p e) (java_expr q e)
+  java_expr_within (Operand a) = java_operand_within a
+  java_expr_within (Binary a operator b) = binary_within (arithmetic_within _ operator) (java_operand_within a) (java_operand_within b)
+
+  java_stmt_within : (s : JStmt) → Within w (java_stmt p s) (java_stmt q s)
+  java_stmt_within (Local name e) = bind_within (java_expr_within e) (assign_within name)
+  java_stmt_within (Print e) = bind_within (java_expr_within e) print_line_within
+
+  java_stmts_within : (body : List JStmt) → AllWithin w (map (java_stmt p) body) (map (java_stmt q) body)
+  java_stmts_within [] = none
+  java_stmts_within (s ∷ body) = more (java_stmt_within s) (java_stmts_within body)
+
+java_within : (class : JClass) → WithinProgram (java_program class)
+java_within class = record {
+  methods = (record { by = λ w p {b} {b'} h. sequence_within (java_stmts_within (with_bodies p b) (with_bodies p b') class.main) }, tt);
+  constructors = tt;
+  lambdas = tt;
+  initializers = tt;
+}
+
+pub java_at_every_depth : (class : JClass) → SameAtEveryDepth (java_program class)
+java_at_every_depth class = deeper (java_within class)
+
+-- ---- Kotlin
+
+torn_within : {w : ℕ} → Within w (torn {A = Value}) torn
+torn_within = record { by = λ s l. asks Torn }
+
+used_within : {w : ℕ} (type : Option KType) (v : Value) → Within w (used type v) (used type v)
+used_within None v = pure_within v
+used_within (Some type) v = if_within (is_non_null type && is_null v) torn_within (pure_within v)
+
+module _ {w : ℕ} (p q : Place) where
+  kotlin_operand_within : (static : Static) (a : KOperand) → Within w (kotlin_operand p static a) (kotlin_operand q static a)
+  kotlin_operand_within static (ko.Local name) = bind_within (local_within name) (used_within (declared static name))
+  kotlin_operand_within static (ko.Number n) = pure_within _
+
+  kotlin_expr_within : (static : Static) (e : KExpr) → Within w (kotlin_expr p static e) (kotlin_expr q static e)
+  kotlin_expr_within static (ke.Operand a) = kotlin_operand_within static a
+  kotlin_expr_within static (ke.Binary a operator b) = binary_within (arithmetic_within _ operator) (kotlin_operand_within static a) (kotlin_operand_within static b)
+
+  kotlin_stmt_within : (static : Static) (s : KStmt) → Within w (kotlin_stmt p static s) (kotlin_stmt q static s)
+  kotlin_stmt_within static (ks.Val name e) = bind_within (kotlin_expr_within static e) (assign_within name)
+  kotlin_stmt_within static (ks.Print e) = bind_within (kotlin_expr_within static e) print_line_within
+
+  kotlin_stmts_within : (static : Static) (body : List KStmt) → Within w (kotlin_stmts p static body) (kotlin_stmts q static body)
+  kotlin_stmts_within static [] = pure_within tt
+  kotlin_stmts_within static (s ∷ body) = step_within (kotlin_stmt_within static s) (kotlin_stmts_within (extended static s) body)
+
+kotlin_within : (class : KClass) → WithinProgram (kotlin_program class)
+kotlin_within class = record {
+  methods = (record { by = λ w p {b} {b'} h. kotlin_stmts_within (with_bodies p b) (with_bodies p b') _ class.main }, tt);
+  constructors = tt;
+  lambdas = tt;
+  initializers = tt;
+}
+
+pub kotlin_at_every_depth : (class : KClass) → SameAtEveryDepth (kotlin_program class)
+kotlin_at_every_depth class = deeper (kotlin_within class)

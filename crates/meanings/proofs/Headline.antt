@@ -1,0 +1,137 @@
+-- The headline's theorem: the Kotlin of a class makes the steps of the class, in every run.
+use Rattle.std.proofs.Common.{◌≡◌, ◌≢◌, ℕ, zero, suc, List, [], ◌∷◌, ◌++◌, map, Option, Some, None, slice_get, slice_set, refl, sym, ◌∙◌, subst}
+use Rattle.meanings.specs.declared.java.JOperand.{JOperand}
+use Rattle.meanings.specs.declared.java.JOperand.TheVariants.{Local as LocalName, Number}
+use Rattle.meanings.specs.declared.java.JExpr.{JExpr}
+use Rattle.meanings.specs.declared.java.JExpr.TheVariants.{Operand, Binary}
+use Rattle.meanings.specs.declared.java.JStmt.{JStmt}
+use Rattle.meanings.specs.declared.java.JStmt.TheVariants.{Local, Print}
+use Rattle.meanings.specs.declared.java.JClass.{JClass}
+use Rattle.meanings.specs.Convert.{class_of}
+use Rattle.meanings.specs.Values.{Site, Value, Step, Touch, InitEnd, Alloc, Built, Get, Put, GetStatic, PutStatic, GetElem, PutElem, Enter, Exit, Print as PrintStep, ReadByte, Lib, Raise, Start as StartStep, Join, End, Torn, Answer, Ready, Run, Mine, Failed, Done, Given, Raised}
+use Rattle.meanings.specs.Machine.{Place}
+use Rattle.meanings.specs.Program.{main_entry, Turn, Next, IsBusy, Ended, Start}
+use Rattle.meanings.specs.World.{World, Reply, answer}
+use Rattle.meanings.specs.Runs.{Thread, Behavior, begun, with_new, replied, turned, turn_of, run, NeverTorn}
+use Rattle.meanings.specs.Java.{java_operand, java_expr, java_stmt, java_program, JavaThread}
+use Rattle.meanings.specs.Kotlin.{KotlinThread}
+use Rattle.meanings.specs.Entries.{Input, first_world, first_threads}
+use Rattle.meanings.specs.SameSteps.{SameSteps}
+use Rattle.meanings.proofs.Calm.{Calm, CalmProgram, AllCalm, none, more, bind_calm, pure_calm, local_calm, assign_calm, arithmetic_calm, binary_calm, print_line_calm, sequence_calm, thread_calm}
+use Rattle.meanings.proofs.RunLaws.{Kept, run_same, run_never_torn}
+use Rattle.meanings.proofs.SameText.{IsGiven, thread_same}
+
+-- ---- a Java thread of this form never asks Torn
+
+operand_calm : (p : Place) (a : JOperand) → Calm (java_operand p a)
+operand_calm p (LocalName name) = local_calm name
+operand_calm p (Number n) = pure_calm _
+
+expr_calm : (p : Place) (e : JExpr) → Calm (java_expr p e)
+expr_calm p (Operand a) = operand_calm p a
+expr_calm p (Binary a operator b) = binary_calm (arithmetic_calm _ operator) (operand_calm p a) (operand_calm p b)
+
+stmt_calm : (p : Place) (s : JStmt) → Calm (java_stmt p s)
+stmt_calm p (Local name e) = bind_calm (expr_calm p e) (assign_calm name)
+stmt_calm p (Print e) = bind_calm (expr_calm p e) print_line_calm
+
+stmts_calm : (p : Place) (body : List JStmt) → AllCalm (map (java_stmt p) body)
+stmts_calm p [] = none
+stmts_calm p (s ∷ body) = more (stmt_calm p s) (stmts_calm p body)
+
+pub java_calm : (class : JClass) → CalmProgram (java_program class)
+java_calm class = record { methods = (λ p h. sequence_calm (stmts_calm p class.main), tt); constructors = tt; lambdas = tt; initializers = tt }
+
+-- ---- each thread starts with given arguments
+
+abbrev StartsGiven : List Thread → Type 0
+StartsGiven [] = Unit {0}
+StartsGiven (t ∷ ts) = IsGiven t.start × StartsGiven ts
+
+start_at : (ts : List Thread) → StartsGiven ts → (i : ℕ) (t : Thread) → slice_get ts i ≡ Some t → IsGiven t.start
+start_at [] h i t e = cc
+start_at (u ∷ ts) h zero t e = let same : u ≡ t = cc in subst (λ (x : Thread). IsGiven x.start) same h.0
+start_at (u ∷ ts) h (suc i) t e = start_at ts h.1 i t e
+
+set_given : (ts : List Thread) → StartsGiven ts → (i : ℕ) (t : Thread) → IsGiven t.start → StartsGiven (slice_set ts i t)
+set_given [] h i t g = tt
+set_given (u ∷ ts) h zero t g = (g, h.1)
+set_given (u ∷ ts) h (suc i) t g = (h.0, set_given ts h.1 i t g)
+
+snoc_given : (ts : List Thread) → StartsGiven ts → (t : Thread) → IsGiven t.start → StartsGiven (ts ++ t ∷ [])
+snoc_given [] h t g = (g, tt)
+snoc_given (u ∷ ts) h t g = (h.0, snoc_given ts h.1 t g)
+
+begun_given : (w : World) (object : Value) (a : Answer) (ts : List Thread) → StartsGiven ts → StartsGiven (begun w object a ts)
+begun_given w object Done ts h = snoc_given ts h _ tt
+begun_given w object Ready ts h = h
+begun_given w object Run ts h = h
+begun_given w object Mine ts h = h
+begun_given w object Failed ts h = h
+begun_given w object (Given v) ts h = h
+begun_given w object (Raised v) ts h = h
+
+with_new_given : (w : World) (p : Step) (a : Answer) (ts : List Thread) → StartsGiven ts → StartsGiven (with_new w p a ts)
+with_new_given w (StartStep object) a ts h = begun_given w object a ts h
+with_new_given w (Touch class) a ts h = h
+with_new_given w (InitEnd class well) a ts h = h
+with_new_given w (Alloc shape) a ts h = h
+with_new_given w (Built v) a ts h = h
+with_new_given w (Get v field) a ts h = h
+with_new_given w (Put v field new) a ts h = h
+with_new_given w (GetStatic field) a ts h = h
+with_new_given w (PutStatic field new) a ts h = h
+with_new_given w (GetElem v k) a ts h = h
+with_new_given w (PutElem v k new) a ts h = h
+with_new_given w (Enter v) a ts h = h
+with_new_given w (Exit v) a ts h = h
+with_new_given w (PrintStep units) a ts h = h
+with_new_given w ReadByte a ts h = h
+with_new_given w (Lib row vs) a ts h = h
+with_new_given w (Raise class) a ts h = h
+with_new_given w (Join v) a ts h = h
+with_new_given w (End ending) a ts h = h
+with_new_given w Torn a ts h = h
+
+replied_given : (w : World) (ts : List Thread) (i : ℕ) (t : Thread) (p : Step) (r : Reply) → StartsGiven ts → IsGiven t.start → StartsGiven (replied w ts i t p r).threads
+replied_given w ts i t p None h g = h
+replied_given w ts i t p (Some reply) h g = with_new_given w p reply.1 _ (set_given ts h i _ g)
+
+turned_given : (w : World) (ts : List Thread) (i : ℕ) (t : Thread) (r : Turn) → StartsGiven ts → IsGiven t.start → StartsGiven (turned w ts i t r).threads
+turned_given w ts i t (Next p) h g = replied_given w ts i t p (answer w i p) h g
+turned_given w ts i t IsBusy h g = h
+turned_given w ts i t Ended h g = h
+
+turn_given : (next : Behavior) (n : ℕ) (w : World) (ts : List Thread) (i : ℕ) (o : Option Thread) → slice_get ts i ≡ o → StartsGiven ts → StartsGiven (turn_of next n w ts i o).threads
+turn_given next n w ts i None is h = h
+turn_given next n w ts i (Some t) is h = turned_given w ts i t (next t.start t.had n) h (start_at ts h i t is)
+
+kept : (next : Behavior) (n : ℕ) → Kept next n (λ w ts. StartsGiven ts)
+kept next n = record { kept = λ w ts i h. turn_given next n w ts i (slice_get ts i) refl h }
+
+-- ---- runs
+
+first_given : (o : Option Site) (input : Input) → StartsGiven (first_threads o input)
+first_given None input = tt
+first_given (Some site) input = ((refl, tt), tt)
+
+pub run_of_class : (class : JClass) (n : ℕ) (w : World) (ts : List Thread) → StartsGiven ts → (schedule : List ℕ) → run (KotlinThread (class_of class)) n w ts schedule ≡ run (JavaThread class) n w ts schedule
+run_of_class class n w ts h schedule =
+    run_same (KotlinThread (class_of class)) (JavaThread class) n (λ w ts. StartsGiven ts) (λ w ts h i t is. thread_same class t.start (start_at ts h i t is) t.had n) (kept (KotlinThread (class_of class)) n) w ts h schedule
+
+-- a Kotlin thread with given arguments never asks Torn either
+kotlin_calm : (class : JClass) (start : Start) → IsGiven start → (answers : List Answer) (n : ℕ) → KotlinThread (class_of class) start answers n ≢ Next Torn
+kotlin_calm class start given answers n e = thread_calm (java_calm class) start answers n (sym (thread_same class start given answers n) ∙ e)
+
+never_torn_of_class : (class : JClass) (n : ℕ) (w : World) (ts : List Thread) → StartsGiven ts → (schedule : List ℕ) → NeverTorn (run (KotlinThread (class_of class)) n w ts schedule)
+never_torn_of_class class n w ts h schedule =
+    run_never_torn (KotlinThread (class_of class)) n (λ w ts. StartsGiven ts) (λ w ts h i t is. kotlin_calm class t.start (start_at ts h i t is) t.had n) (kept (KotlinThread (class_of class)) n) w ts h schedule
+
+-- the headline's theorem, for every class of the form
+pub same_steps : (class : JClass) → SameSteps class (class_of class)
+same_steps class = record {
+  same = λ entry is input schedule n.
+      run_of_class class n (first_world (java_program class) input) (first_threads (main_entry class.name entry.class entry.method) input) (first_given (main_entry class.name entry.class entry.method) input) schedule;
+  never_torn = λ entry is input schedule n.
+      never_torn_of_class class n (first_world (java_program class) input) (first_threads (main_entry class.name entry.class entry.method) input) (first_given (main_entry class.name entry.class entry.method) input) schedule;
+}

@@ -1,0 +1,14 @@
+mod Worked
+mod WorkedMachine
+pub mod Calm
+pub mod RunLaws
+pub mod SameText
+pub mod Headline
+pub mod Depth
+pub mod FormDepth
+pub mod SameValues
+pub mod Answers
+pub mod Whole
+pub mod Typed
+pub mod Spelling
+pub mod Numbers

@@ -1,0 +1,174 @@
+-- The text of a class of this form does in Kotlin what it does in Java.
+use Rattle.std.proofs.Common.{◌≡◌, ℕ, zero, suc, ◌+◌, pos, Bool, true, false, ◌&&◌, List, [], ◌∷◌, map, length, Option, Some, None, if◌then◌else◌, refl, ap}
+use Rattle.std.specs.Prelude.{codes}
+use Rattle.meanings.specs.declared.java.JOperand.{JOperand}
+use Rattle.meanings.specs.declared.java.JOperand.TheVariants.{Local as LocalName, Number}
+use Rattle.meanings.specs.declared.java.JExpr.{JExpr}
+use Rattle.meanings.specs.declared.java.JExpr.TheVariants.{Operand, Binary}
+use Rattle.meanings.specs.declared.java.JStmt.{JStmt}
+use Rattle.meanings.specs.declared.java.JStmt.TheVariants.{Local, Print}
+use Rattle.meanings.specs.declared.java.JClass.{JClass}
+use Rattle.meanings.specs.Convert.{operand_of, expression_of, statement_of, class_of}
+use Rattle.meanings.specs.Values.{Name, same_name, Site, same_site, Kind, Value, Null, Integer, Lambda, captured_list, Int, Step, Answer, Ready, Run, Mine, Failed, Done, Given, Raised, is_null, integer_in, narrowed}
+use Rattle.meanings.specs.Outcome.{Locals, get, State, Outcome, Asks, Busy, Gives, Jumps, Meaning, then_do, pure, torn, ◌>>◌, ask_from, pay_from, assign_all}
+use Rattle.meanings.specs.Machine.{Place, operated, received, print_line, returned, sequence}
+use Rattle.meanings.specs.Program.{Start, Enters, Runs, thread_from, turn, place, bodies, run_site, main_site}
+use Rattle.meanings.specs.Static.{KType, type_of, is_non_null, Static, declared, extended, main_static}
+use Rattle.meanings.specs.Java.{java_expr, java_operand, java_stmt, java_program, JavaThread}
+use Rattle.meanings.specs.Kotlin.{used, operator_kind, kotlin_expr, kotlin_operand, kotlin_stmts, kotlin_program, KotlinThread}
+
+-- ---- no value is null
+
+abbrev pub AllGiven : List Value → Type 0
+AllGiven [] = Unit {0}
+AllGiven (v ∷ vs) = (is_null v ≡ false) × AllGiven vs
+
+abbrev pub LocalsGiven : Locals → Type 0
+LocalsGiven [] = Unit {0}
+LocalsGiven (b ∷ locals) = (is_null b.1 ≡ false) × LocalsGiven locals
+
+if_given : (b : Bool) (v w : Value) → is_null v ≡ false → is_null w ≡ false → is_null (if b then v else w) ≡ false
+if_given true v w h g = h
+if_given false v w h g = g
+
+get_given : (locals : Locals) (name : Name) → LocalsGiven locals → is_null (get locals name) ≡ false
+get_given [] name h = refl
+get_given (b ∷ locals) name h = if_given (same_name b.0 name) b.1 (get locals name) h.0 (get_given locals name h.1)
+
+-- ---- expressions make no step and give a value
+
+abbrev operand_value : Locals → JOperand → Value
+operand_value locals (LocalName name) = get locals name
+operand_value locals (Number n) = Integer Int (pos n)
+
+abbrev value : Locals → JExpr → Value
+value locals (Operand a) = operand_value locals a
+value locals (Binary a operator b) = Integer Int (narrowed Int (operated operator (integer_in (operand_value locals a)) (integer_in (operand_value locals b))))
+
+operand_given : (locals : Locals) (a : JOperand) → LocalsGiven locals → is_null (operand_value locals a) ≡ false
+operand_given locals (LocalName name) h = get_given locals name h
+operand_given locals (Number n) h = refl
+
+value_given : (locals : Locals) (e : JExpr) → LocalsGiven locals → is_null (value locals e) ≡ false
+value_given locals (Operand a) h = operand_given locals a h
+value_given locals (Binary a operator b) h = refl
+
+java_operand_is : (p : Place) (a : JOperand) (s : State) → java_operand p a s ≡ Gives (operand_value s.locals a) s
+java_operand_is p (LocalName name) s = refl
+java_operand_is p (Number n) s = refl
+
+java_expr_is : (p : Place) (e : JExpr) (s : State) → java_expr p e s ≡ Gives (value s.locals e) s
+java_expr_is p (Operand a) s = java_operand_is p a s
+java_expr_is p (Binary a operator b) s = rw (java_operand_is p a s, java_operand_is p b s) refl
+
+-- what isn't null is no Torn, whatever the type
+if_used : (b c : Bool) (v : Value) (s : State) → c ≡ false → (if b && c then torn {A = Value} else pure v) s ≡ Gives v s
+if_used true true v s h = cc
+if_used true false v s h = refl
+if_used false true v s h = refl
+if_used false false v s h = refl
+
+used_is : (type : Option KType) (v : Value) (s : State) → is_null v ≡ false → used type v s ≡ Gives v s
+used_is None v s h = refl
+used_is (Some type) v s h = if_used (is_non_null type) (is_null v) v s h
+
+kotlin_operand_is : (p : Place) (static : Static) (a : JOperand) (s : State) → LocalsGiven s.locals → kotlin_operand p static (operand_of a) s ≡ Gives (operand_value s.locals a) s
+kotlin_operand_is p static (LocalName name) s h = used_is (declared static name) (get s.locals name) s (get_given s.locals name h)
+kotlin_operand_is p static (Number n) s h = refl
+
+operator_is_int : (type : Option KType) → operator_kind type ≡ Int
+operator_is_int None = refl
+operator_is_int (Some type) = refl
+
+kotlin_expr_is : (p : Place) (static : Static) (e : JExpr) (s : State) → LocalsGiven s.locals → kotlin_expr p static (expression_of e) s ≡ Gives (value s.locals e) s
+kotlin_expr_is p static (Operand a) s h = kotlin_operand_is p static a s h
+kotlin_expr_is p static (Binary a operator b) s h =
+    rw (kotlin_operand_is p static a s h, kotlin_operand_is p static b s h)
+    (ap (λ (kind : Kind). Gives (Integer kind (narrowed kind (operated operator (integer_in (operand_value s.locals a)) (integer_in (operand_value s.locals b))))) s) (operator_is_int (type_of static (expression_of (Binary a operator b)))))
+
+-- ---- statements
+
+abbrev OnGives : {A : Type 0} → Outcome A → (State → Type 0) → Type 0
+OnGives (Asks p) P = Unit {0}
+OnGives Busy P = Unit {0}
+OnGives (Gives a s) P = P s
+OnGives (Jumps j s) P = Unit {0}
+
+then_same : {A B : Type 0} (P : State → Type 0) (o : Outcome A) (f g : A → Meaning B) → OnGives o P → ((a : A) (s : State) → P s → f a s ≡ g a s) → then_do o f ≡ then_do o g
+then_same P (Asks p) f g h same = refl
+then_same P Busy f g h same = refl
+then_same P (Gives a s) f g h same = same a s h
+then_same P (Jumps j s) f g h same = refl
+
+abbrev Given' : State → Type 0
+Given' s = LocalsGiven s.locals
+
+received_keeps : (a : Answer) (s : State) → LocalsGiven s.locals → OnGives (then_do (received a s) (λ v. pure (tt {0}))) Given'
+received_keeps (Given v) s h = h
+received_keeps (Raised v) s h = tt
+received_keeps Ready s h = h
+received_keeps Run s h = h
+received_keeps Mine s h = h
+received_keeps Failed s h = h
+received_keeps Done s h = h
+
+asked_keeps : (p : Step) (s : State) (xs : List Answer) → LocalsGiven s.locals → OnGives (then_do (then_do (ask_from p s xs) received) (λ v. pure (tt {0}))) Given'
+asked_keeps p s [] h = tt
+asked_keeps p s (a ∷ xs) h = received_keeps a (record s { answers = xs }) h
+
+print_line_keeps : (v : Value) (s : State) → LocalsGiven s.locals → OnGives (print_line v s) Given'
+print_line_keeps v s h = asked_keeps _ s s.answers h
+
+pub text_same : (p q : Place) (static : Static) (body : List JStmt) (s : State) → LocalsGiven s.locals →
+    kotlin_stmts p static (map statement_of body) s ≡ sequence (map (java_stmt q) body) s
+text_same p q static [] s h = refl
+text_same p q static (Local name e ∷ more) s h =
+    rw (kotlin_expr_is p static e s h, java_expr_is q e s)
+    (text_same p q (extended static (statement_of (Local name e))) more (record s { locals = (name, value s.locals e) ∷ s.locals }) (value_given s.locals e h, h))
+text_same p q static (Print e ∷ more) s h =
+    rw (kotlin_expr_is p static e s h, java_expr_is q e s)
+    (then_same Given' (print_line (value s.locals e) s) (λ a. kotlin_stmts p static (map statement_of more)) (λ a. sequence (map (java_stmt q) more)) (print_line_keeps (value s.locals e) s h)
+    (λ a t given. text_same p q static more t given))
+
+-- ---- bodies and threads
+
+if_same : {A : Type 0} (b : Bool) (k k' j j' : Meaning A) (s : State) → k s ≡ j s → k' s ≡ j' s → (if b then k else k') s ≡ (if b then j else j') s
+if_same true k k' j j' s h g = h
+if_same false k k' j j' s h g = g
+
+-- the text with the argument of `main` in its place
+entered_same : (p q : Place) (body : List JStmt) (vs : List Value) → AllGiven vs → (s : State) → LocalsGiven s.locals →
+    then_do (assign_all (codes "args" ∷ []) vs s) (λ a. kotlin_stmts p main_static (map statement_of body)) ≡ then_do (assign_all (codes "args" ∷ []) vs s) (λ a. sequence (map (java_stmt q) body))
+entered_same p q body [] given s h = text_same p q main_static body s h
+entered_same p q body (v ∷ vs) given s h = text_same p q main_static body (record s { locals = (codes "args", v) ∷ s.locals }) (given.0, h)
+
+paid_same : (p q : Place) (body : List JStmt) (vs : List Value) → AllGiven vs → (s : State) → LocalsGiven s.locals → (n : ℕ) →
+    then_do (pay_from s n) (λ a. assign_all (codes "args" ∷ []) vs >> kotlin_stmts p main_static (map statement_of body)) ≡ then_do (pay_from s n) (λ a. assign_all (codes "args" ∷ []) vs >> sequence (map (java_stmt q) body))
+paid_same p q body vs given s h zero = refl
+paid_same p q body vs given s h (suc n) = entered_same p q body vs given (record s { n = n }) h
+
+-- a start whose arguments aren't null
+abbrev pub IsGiven : Start → Type 0
+IsGiven (Enters site vs) = AllGiven vs
+IsGiven (Runs v) = Unit {0}
+
+module _ (class : JClass) where
+  method_same : (d : ℕ) (site : Site) (vs : List Value) → AllGiven vs → (s : State) → LocalsGiven s.locals →
+      (bodies (kotlin_program (class_of class)) d).method site vs s ≡ (bodies (java_program class) d).method site vs s
+  method_same zero site vs given s h = refl
+  method_same (suc d) site vs given s h =
+      if_same (same_site (main_site class.name) site) _ _ _ _ s
+      (paid_same (place (kotlin_program (class_of class)) (bodies (kotlin_program (class_of class)) d) class.name) (place (java_program class) (bodies (java_program class) d) class.name) class.main vs given s h s.n) refl
+
+  lambda_same : (d : ℕ) (site : Site) (captured vs : List Value) → (bodies (kotlin_program (class_of class)) d).lambda site captured vs ≡ (bodies (java_program class) d).lambda site captured vs
+  lambda_same zero site captured vs = refl
+  lambda_same (suc d) site captured vs = refl
+
+  from_same : (d : ℕ) (start : Start) → IsGiven start → (s : State) → thread_from (kotlin_program (class_of class)) (bodies (kotlin_program (class_of class)) d) start s ≡ thread_from (java_program class) (bodies (java_program class) d) start s
+  from_same d (Enters site vs) given s = ap (returned s.locals) (method_same d site vs given (record s { locals = [] }) tt)
+  from_same d (Runs (Lambda site k captured)) given s = ap (λ (m : Meaning (Unit {0})). returned s.locals (m (record s { locals = [] }))) (lambda_same d site (captured_list captured) [])
+  from_same d (Runs Null) given s = refl
+  from_same d (Runs object) given s = ap (returned s.locals) (method_same d run_site (object ∷ []) (refl, tt) (record s { locals = [] }) tt)
+
+  pub thread_same : (start : Start) → IsGiven start → (answers : List Answer) (n : ℕ) → KotlinThread (class_of class) start answers n ≡ JavaThread class start answers n
+  thread_same start given answers n = ap turn (from_same (n + length answers) start given (record { locals = []; answers = answers; n = n }))

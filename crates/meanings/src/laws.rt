@@ -1,0 +1,68 @@
+// Laws of the meanings: each is the contract of a function that does nothing.
+
+ghost use Rattle.meanings.specs.declared.java.JClass.{JClass};
+ghost use Rattle.meanings.specs.declared.kotlin.KClass.{KClass};
+ghost use Rattle.meanings.specs.Convert.{class_of};
+ghost use Rattle.meanings.specs.Java.{java_program};
+ghost use Rattle.meanings.specs.Kotlin.{kotlin_program};
+ghost use Rattle.meanings.specs.SameSteps.{SameSteps};
+ghost use Rattle.meanings.specs.Laws.{SameIsEqual, SameAtEveryDepth, EqualRuns, MatchingRuns, OnlyStepsChange, ThreadsAgree, OneAnswer, ChangesOnlyWhatItSays, RunsGrow, SpellingIsKept, TypesAreKept};
+ghost use Rattle.meanings.specs.KSpells.{SpellsOne};
+
+/// The Kotlin of a class makes exactly the steps of the class, in every run, and Torn never comes.
+pub fn same_steps()
+    ensures { (class : JClass) → SameSteps class (class_of class) }
+{}
+
+/// A thread is the same with every larger depth, in both languages.
+pub fn same_at_every_depth()
+    ensures java { (class : JClass) → SameAtEveryDepth (java_program class) }
+    ensures kotlin { (class : KClass) → SameAtEveryDepth (kotlin_program class) }
+{}
+
+/// Equal threads, under an invariant that each turn keeps, give equal runs for every schedule; so do matching turns from two worlds.
+pub fn equal_runs()
+    ensures equal { EqualRuns }
+    ensures matching { MatchingRuns }
+{}
+
+/// A step has one answer at most, and a turn that is no step, as a blocked one, changes nothing.
+pub fn one_answer()
+    ensures one { OneAnswer }
+    ensures unchanged { OnlyStepsChange }
+{}
+
+/// The world and a run number the same threads: each turn keeps that.
+pub fn threads_agree()
+    ensures { ThreadsAgree }
+{}
+
+/// An answer changes nothing but what it says.
+pub fn changes_only_what_it_says()
+    ensures { ChangesOnlyWhatItSays }
+{}
+
+/// The output after a run is what its steps printed, and a class that is ready stays so.
+pub fn runs_grow()
+    ensures { RunsGrow }
+{}
+
+/// The test by which the world tells values apart is their equality.
+pub fn same_is_equal()
+    ensures { SameIsEqual }
+{}
+
+/// The Kotlin of a well typed class is well typed.
+pub fn types_are_kept()
+    ensures { TypesAreKept }
+{}
+
+/// Bytes spell at most one Kotlin tree.
+pub fn spells_one()
+    ensures { SpellsOne }
+{}
+
+/// The canonical text of the Kotlin of a class spells it.
+pub fn spelling_is_kept()
+    ensures { SpellingIsKept }
+{}
