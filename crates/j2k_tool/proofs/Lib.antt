@@ -1,5 +1,6 @@
 pub mod Again
 pub mod Files
+pub mod Headlines
 pub mod Lists
 pub mod Numbers
 pub mod Once
@@ -10,3 +11,4 @@ pub mod Scopes
 pub mod Sound
 pub mod Statements
 pub mod Strips
+pub mod Typing

@@ -1,6 +1,7 @@
 pub mod Asks
 pub mod Causes
 pub mod Faults
+pub mod Headline
 pub mod Messages
 pub mod Projects
 pub mod Reading

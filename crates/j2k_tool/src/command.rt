@@ -5,6 +5,7 @@ ghost use Rattle.j2k_io.specs.Causes.{Rose};
 ghost use Rattle.j2k_io.specs.Disks.{listing};
 ghost use Rattle.j2k_io.specs.Sinks.{IsPartOf};
 ghost use Rattle.j2k_tool.specs.Asks.{Answer as Asked, Asks, Told, Untold, Stopped, IsAnswer, IsUnless, IsGiven, MayTell, KeepsFiles};
+ghost use Rattle.j2k_tool.specs.Headline.{Headline};
 ghost use Rattle.j2k_tool.specs.Projects.{IsProject};
 ghost use Rattle.j2k_tool.specs.Words.{words_mean};
 
@@ -23,6 +24,9 @@ pub fn run<D: Disk, S: Sink>(alloc: Global, words: &Words, disk: &mut D, out: &m
     // were made, and its text was given.
     ensures answered { IsAnswer result → IfSome (D.held disk.old) (λ files.
         Told (Asks words.now files) result (Some files) (D.held disk.new) (S.given out.old) (S.given out.new)) }
+
+    // What was converted makes the same steps.
+    ensures same_steps { result ≡ Status.Done → IfSome (D.held disk.old) (λ files. Headline words.now files (D.held disk.new)) }
 
     // What they ask for is answered, unless memory ran out or a counted fault came.
     ensures complete { IfSome (D.held disk.old) (λ files. (asked : Asked) → Asks words.now files asked →
