@@ -7,7 +7,7 @@ use crate::bodies::body;
 use j2k_base::{Const, Kind};
 
 // The low bits of a number in a kind.
-fn cut_to(kind: Kind, x: i64) -> Const
+pub(crate) fn cut_to(kind: Kind, x: i64) -> Const
     ensures { result ≡ cut kind x }
 {
     match kind {

@@ -3,6 +3,8 @@
 
 mod bodies;
 mod casts;
+mod choosing;
+mod folding;
 mod operators;
 
 pub use casts::cast;
