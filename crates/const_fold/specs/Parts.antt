@@ -27,9 +27,10 @@ on_part f (Some (Number c)) = as_part (f c)
 on_part f _ = None
 
 -- the units before the right operand: `+` has appended the text of a number
-abbrev pub before_right : Op2 → Option Part → List ℕ → List ℕ
-before_right by.Add (Some (Number c)) units = units ++ text_of c
-before_right _ _ units = units
+abbrev pub before_right : Part → Op2 → List ℕ → List ℕ
+before_right (Number c) by.Add units = units ++ text_of c
+before_right (Number c) _ units = units
+before_right Text op units = units
 
 -- what a text and a number give
 abbrev pub joined_part : Op2 → Option Part
@@ -43,26 +44,25 @@ texts_part by.Eq s t = Some (Number (constant.Bool (same_text s t)))
 texts_part by.Ne s t = Some (Number (constant.Bool (not (same_text s t))))
 texts_part _ s t = None
 
--- what two operands give, where the left one's units begin at `start` and the right one's at `middle`
-abbrev pub two_part : Op2 → Option Part → Option Part → ℕ → ℕ → List ℕ → Option Part
-two_part op (Some (Number a)) (Some (Number b)) start middle units = as_part (value2 op a b)
-two_part op (Some (Number a)) (Some Text) start middle units = joined_part op
-two_part op (Some Text) (Some (Number b)) start middle units = joined_part op
-two_part op (Some Text) (Some Text) start middle units = texts_part op (drop start (take middle units)) (drop middle units)
-two_part op _ _ start middle units = None
-
--- the units of two texts
+-- the units after two texts
 abbrev pub texts_units : Op2 → ℕ → List ℕ → List ℕ
 texts_units by.Eq start units = take start units
 texts_units by.Ne start units = take start units
 texts_units _ start units = units
 
+-- what two operands give, where the left one's units begin at `start` and the right one's at `middle`
+abbrev pub two_part : Part → Part → Op2 → ℕ → ℕ → List ℕ → Option Part
+two_part (Number a) (Number b) op start middle units = as_part (value2 op a b)
+two_part (Number a) Text op start middle units = joined_part op
+two_part Text (Number b) op start middle units = joined_part op
+two_part Text Text op start middle units = texts_part op (drop start (take middle units)) (drop middle units)
+
 -- the units after two operands
-abbrev pub two_units : Op2 → Option Part → Option Part → ℕ → List ℕ → List ℕ
-two_units op (Some (Number a)) (Some (Number b)) start units = take start units
-two_units op (Some Text) (Some (Number b)) start units = units ++ text_of b
-two_units op (Some Text) (Some Text) start units = texts_units op start units
-two_units op _ _ start units = units
+abbrev pub two_units : Part → Part → Op2 → ℕ → List ℕ → List ℕ
+two_units (Number a) (Number b) op start units = take start units
+two_units (Number a) Text op start units = units
+two_units Text (Number b) op start units = units ++ text_of b
+two_units Text Text op start units = texts_units op start units
 
 -- what a conditional gives
 abbrev pub chosen_part : Bool → Option Part → Option Part → Option Part

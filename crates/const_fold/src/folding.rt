@@ -1,9 +1,9 @@
 // Trees. Each tree appends its text to one list of units, so that a fold takes time by the tree and the text alone.
 
-ghost use Rattle.std.specs.Prelude.{◌≡◌, ◌≤◌, ◌++◌, if◌then◌else◌, not, length, take, IfOk, OnOk, vec_len};
+ghost use Rattle.std.specs.Prelude.{◌≡◌, ◌≤◌, ◌++◌, if◌then◌else◌, length, take, drop, Some, IfOk, OnOk, vec_len};
 ghost use Rattle.std.specs.Fmt.{signed_decimal};
-ghost use Rattle.const_fold.specs.Constants.{cast_value, plus_value, minus_value, flip_value, not_value, text_of, value_of};
-ghost use Rattle.const_fold.specs.Parts.{HasPart, on_part, before_right, two_part, two_units};
+ghost use Rattle.const_fold.specs.Constants.{cast_value, plus_value, minus_value, flip_value, not_value, text_of, same_text, value_of};
+ghost use Rattle.const_fold.specs.Parts.{HasPart, on_part, before_right, joined_part, texts_part, texts_units, two_part, two_units};
 ghost use Rattle.const_fold.specs.Parts as spec;
 
 use crate::casts::{cast, flip, minus, not, plus};
@@ -131,5 +131,150 @@ fn leaf_onto(value: &Value, units: &mut Vec<u16>) -> Result<Option<Part>, NoMemo
             units.extend_from_slice(text.as_slice())?;
             Ok(Some(Part::Text))
         }
+    }
+}
+
+// The text of a number before a right operand that may be a text.
+fn push_before(alloc: Global, op: Op2, left: Part, units: &mut Vec<u16>) -> Result<(), NoMemory>
+    ensures { OnOk result (units.new.items ≡ before_right left op units.old.items) }
+{
+    match left {
+        Part::Number(c) => match op {
+            Op2::Add => push_text(alloc, c, units),
+            _ => Ok(()),
+        },
+        Part::Text => Ok(()),
+    }
+}
+
+fn same_units(units: &[u16], start: usize, middle: usize) -> bool
+    requires ordered { start ≤ middle }
+    requires within { middle ≤ length units.now }
+    ensures { result ≡ same_text (drop start (take middle units.now)) (drop middle units.now) }
+{
+    let left = &units[start..middle];
+    let right = &units[middle..];
+    left == right
+}
+
+fn join_texts(op: Op2, start: usize, middle: usize, units: &mut Vec<u16>) -> Option<Part>
+    requires ordered { start ≤ middle }
+    requires within { middle ≤ vec_len units.old }
+    ensures part { result ≡ texts_part op (drop start (take middle units.old.items)) (drop middle units.old.items) }
+    ensures units { units.new.items ≡ texts_units op start units.old.items }
+{
+    match op {
+        Op2::Add => Some(Part::Text),
+        Op2::Eq => {
+            let same = same_units(units.as_slice(), start, middle);
+            units.truncate(start);
+            Some(Part::Number(Const::Bool(same)))
+        }
+        Op2::Ne => {
+            let same = same_units(units.as_slice(), start, middle);
+            units.truncate(start);
+            Some(Part::Number(Const::Bool(!same)))
+        }
+        _ => None,
+    }
+}
+
+fn joined(op: Op2) -> Option<Part>
+    ensures { result ≡ joined_part op }
+{
+    match op {
+        Op2::Add => Some(Part::Text),
+        _ => None,
+    }
+}
+
+// Two operands, where the left one's units begin at `start` and the right one's at `middle`.
+fn join(
+    alloc: Global,
+    op: Op2,
+    left: Part,
+    right: Part,
+    start: usize,
+    middle: usize,
+    units: &mut Vec<u16>,
+) -> Result<Option<Part>, NoMemory>
+    requires ordered { start ≤ middle }
+    requires within { middle ≤ vec_len units.old }
+    ensures part { IfOk result (λ part. part ≡ two_part left right op start middle units.old.items) }
+    ensures units { OnOk result (units.new.items ≡ two_units left right op start units.old.items) }
+{
+    match left {
+        Part::Number(a) => match right {
+            Part::Number(b) => {
+                units.truncate(start);
+                Ok(number_part(fold2(op, a, b)))
+            }
+            Part::Text => Ok(joined(op)),
+        },
+        Part::Text => match right {
+            Part::Number(b) => {
+                push_text(alloc, b, units)?;
+                Ok(joined(op))
+            }
+            Part::Text => Ok(join_texts(op, start, middle, units)),
+        },
+    }
+}
+
+fn truncate_if(cut: bool, len: usize, units: &mut Vec<u16>)
+    ensures { units.new.items ≡ (if cut then take len units.old.items else units.old.items) }
+{
+    if cut {
+        units.truncate(len);
+    }
+}
+
+// The value of a tree, whose text is appended.
+fn fold_onto(alloc: Global, e: &CExpr, units: &mut Vec<u16>) -> Result<Option<Part>, NoMemory>
+    ensures { IfOk result (λ part. HasPart (value_of e.now) units.old.items units.new.items part) }
+{
+    match e {
+        CExpr::Leaf(value) => leaf_onto(value, units),
+        CExpr::Cast(to, a) => Ok(cast_part(*to, fold_onto(alloc, a.get(), units)?)),
+        CExpr::Plus(a) => Ok(plus_part(fold_onto(alloc, a.get(), units)?)),
+        CExpr::Minus(a) => Ok(minus_part(fold_onto(alloc, a.get(), units)?)),
+        CExpr::Flip(a) => Ok(flip_part(fold_onto(alloc, a.get(), units)?)),
+        CExpr::Not(a) => Ok(not_part(fold_onto(alloc, a.get(), units)?)),
+        CExpr::Two(op, a, b) => {
+            let start = units.len();
+            let Some(left) = fold_onto(alloc, a.get(), units)? else {
+                return Ok(None);
+            };
+            push_before(alloc, *op, left, units)?;
+            let middle = units.len();
+            let Some(right) = fold_onto(alloc, b.get(), units)? else {
+                return Ok(None);
+            };
+            join(alloc, *op, left, right, start, middle, units)
+        }
+        CExpr::Choose(c, a, b) => {
+            let Some(Part::Number(Const::Bool(p))) = fold_onto(alloc, c.get(), units)? else {
+                return Ok(None);
+            };
+            let start = units.len();
+            let left = fold_onto(alloc, a.get(), units)?;
+            truncate_if(!p, start, units);
+            let middle = units.len();
+            let right = fold_onto(alloc, b.get(), units)?;
+            truncate_if(p, middle, units);
+            Ok(chosen_part(p, left, right))
+        }
+    }
+}
+
+/// The value of a constant expression (JLS 15.28). None exactly where it has none.
+pub fn fold(alloc: Global, e: &CExpr) -> Result<Option<Value>, NoMemory>
+    ensures { IfOk result (λ value. value ≡ value_of e.now) }
+{
+    let mut units = Vec::new(alloc);
+    match fold_onto(alloc, e, &mut units)? {
+        Some(Part::Number(c)) => Ok(Some(Value::Number(c))),
+        Some(Part::Text) => Ok(Some(Value::Text(Units::from_vec(units)))),
+        None => Ok(None),
     }
 }

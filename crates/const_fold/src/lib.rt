@@ -8,4 +8,5 @@ mod folding;
 mod operators;
 
 pub use casts::cast;
+pub use folding::fold;
 pub use operators::fold2;
