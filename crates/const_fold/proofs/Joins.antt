@@ -141,10 +141,10 @@ pub two_tree : (e : CExpr) (op : Op2) (a b : CExpr) (l r part : Option Part) (le
 two_tree e op a b l r part left right old u1 u2 u3 new start middle is g el es eu em h er ep en =
     moved (on_two (two_value op) (value_of a) (value_of b)) (value_of e) old new new part part (ap value_of is ∙ value_of-Two op a b) refl refl
     (two_has op (value_of a) (value_of b) left right old u1 u2 u3 new part
-        (subst (λ (x : Option Part). HasPart (value_of a) old u1 x) el g) eu
-        (subst (λ (x : Option Part). HasPart (value_of b) u2 u3 x) er h)
-        (ep ∙ ap (λ (n : ℕ). two_part left right op n middle u3) es ∙ ap (λ (n : ℕ). two_part left right op (length old) n u3) em)
-        (en ∙ ap (λ (n : ℕ). two_units left right op n u3) es))
+    (subst (λ (x : Option Part). HasPart (value_of a) old u1 x) el g) eu
+    (subst (λ (x : Option Part). HasPart (value_of b) u2 u3 x) er h)
+    (ep ∙ ap (λ (n : ℕ). two_part left right op n middle u3) es ∙ ap (λ (n : ℕ). two_part left right op (length old) n u3) em)
+    (en ∙ ap (λ (n : ℕ). two_units left right op n u3) es))
 
 -- the value of a conditional
 pub choose_tree : (e c a b : CExpr) (pc left right part : Option Part) (p : Bool) (u0 old u1 m1 u3 new : List ℕ) (start middle : ℕ) → e ≡ Choose c a b → HasPart (value_of c) u0 old pc → pc ≡ Some (Number (constant.Bool p)) → start ≡ length old → HasPart (value_of a) old u1 left → m1 ≡ (if not p then take start u1 else u1) → middle ≡ length m1 → HasPart (value_of b) m1 u3 right → new ≡ (if p then take middle u3 else u3) → part ≡ chosen_part p left right → HasPart (value_of e) u0 new part
@@ -152,9 +152,9 @@ choose_tree e c a b pc left right part p u0 old u1 m1 u3 new start middle is f e
     let cond : HasPart (value_of c) u0 old (Some (Number (constant.Bool p))) = subst (λ (x : Option Part). HasPart (value_of c) u0 old x) ec f in
     let whole_value : value_of e ≡ on_two (chosen_value p) (value_of a) (value_of b) = ap value_of is ∙ value_of-Choose c a b ∙ ap (λ (x : Option Value). on_three x (value_of a) (value_of b)) cond.0 in
     let there : HasPart (on_two (chosen_value p) (value_of a) (value_of b)) old new part =
-        chosen_has p (value_of a) (value_of b) left right old u1 m1 u3 new part g
-        (em ∙ ap (λ (n : ℕ). if not p then take n u1 else u1) es) h
-        (en ∙ ap (λ (n : ℕ). if p then take n u3 else u3) el) ep in
+    chosen_has p (value_of a) (value_of b) left right old u1 m1 u3 new part g
+    (em ∙ ap (λ (n : ℕ). if not p then take n u1 else u1) es) h
+    (en ∙ ap (λ (n : ℕ). if p then take n u3 else u3) el) ep in
     moved (on_two (chosen_value p) (value_of a) (value_of b)) (value_of e) u0 new new part part whole_value refl refl
     (subst (λ (x : List ℕ). HasPart (on_two (chosen_value p) (value_of a) (value_of b)) x new part) cond.1 there)
 

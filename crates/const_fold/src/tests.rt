@@ -1,10 +1,8 @@
 use super::*;
-use j2k_base::{CExpr, Const, Kind, NoMemory, Op2, Units, Value};
-use sqlite_items::Boxed;
-use std::alloc::Global;
-use std::test::Fail;
+use j2k_base::{Const, Kind};
 
 mod table;
+mod trees;
 
 #[test]
 fn operators(rt: HostRuntime) {

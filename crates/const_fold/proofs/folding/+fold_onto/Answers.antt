@@ -31,5 +31,5 @@ returns-in-Some-2 t c =
     (c.join.new.units.items ≡ two_units c.in-Some.left c.in-Some-2.right c.in-Two.op c.len-start.result c.fold_onto-in-Two-2.new.units.items)
     c.join.ensures.part c.join.ensures.units
     (λ part ep en. two_tree c.args.e.now c.in-Two.op c.in-Two.a c.in-Two.b c.in_ok-left-in-Two.field-0 c.in_ok-right-in-Two.field-0 part c.in-Some.left c.in-Some-2.right
-        c.args.units.now.items c.fold_onto-in-Two.new.units.items c.push_before.new.units.items c.fold_onto-in-Two-2.new.units.items c.join.new.units.items c.len-start.result c.len-middle.result
-        c.in-Two.is g c.in-Some.is i k j h c.in-Some-2.is ep en)
+    c.args.units.now.items c.fold_onto-in-Two.new.units.items c.push_before.new.units.items c.fold_onto-in-Two-2.new.units.items c.join.new.units.items c.len-start.result c.len-middle.result
+    c.in-Two.is g c.in-Some.is i k j h c.in-Some-2.is ep en)
