@@ -1,6 +1,6 @@
 -- The table of operators and kinds is covered.
-use Rattle.std.proofs.Common.{◌≡◌, Bool, true, false, refl, ℤ, pos, ◌∙◌, sym}
-use Rattle.std.specs.Prelude.{Option, Some, None, not, ◌&&◌, is_some, if◌then◌else◌}
+use Rattle.std.proofs.Common.{◌≡◌, Bool, true, false, refl, ℤ, pos}
+use Rattle.std.specs.Prelude.{Some, None, not, ◌&&◌, is_some, if◌then◌else◌}
 use Rattle.std.specs.Ordering.{int_eq}
 use Rattle.j2k_base.specs.declared.constants.Kind.{Kind}
 use Rattle.j2k_base.specs.declared.constants.Kind.TheVariants as kind
@@ -8,8 +8,8 @@ use Rattle.j2k_base.specs.declared.constants.Op2.{Op2}
 use Rattle.j2k_base.specs.declared.constants.Op2.TheVariants as by
 use Rattle.j2k_base.specs.declared.constants.Const.{Const}
 use Rattle.j2k_base.specs.declared.constants.Const.TheVariants as constant
-use Rattle.const_fold.specs.Constants.{operated, decided, common, promoted, value2}
-use Rattle.const_fold.specs.Laws.{is_numeric, is_logical, is_division, has_value, OperatorsAreCovered, CastsAreCovered, OneValue}
+use Rattle.const_fold.specs.Constants.{operated, decided, common, promoted}
+use Rattle.const_fold.specs.Laws.{is_numeric, is_logical, is_division, OperatorsAreCovered, CastsAreCovered, OneValue}
 
 unless : (b : Bool) (c : Const) → is_some (if b then None else Some c) ≡ not b
 unless true c = refl

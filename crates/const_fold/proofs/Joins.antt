@@ -1,7 +1,6 @@
 -- What two operands give by their parts.
-use Rattle.std.proofs.Common.{◌≡◌, ℕ, ◌+◌, ◌≤◌, Bool, true, false, List, [], ◌∷◌, ◌++◌, length, take, drop, refl, sym, ap, subst, ◌∙◌, append_assoc, arith}
+use Rattle.std.proofs.Common.{◌≡◌, ℕ, Bool, true, false, List, ◌++◌, length, take, drop, refl, sym, ap, subst, ◌∙◌, append_assoc, arith}
 use Rattle.std.specs.Prelude.{Option, Some, None, Result, Ok, Err, IfOk, OnOk, not, if◌then◌else◌}
-use Rattle.std.proofs.lemmas.List.{take_all, take-append-le, drop-append-le, drop_all}
 use Rattle.std.proofs.lemmas.Grind.{common_steps}
 use Rattle.j2k_base.specs.declared.constants.Op2.{Op2}
 use Rattle.j2k_base.specs.declared.constants.Op2.TheVariants as by
@@ -13,7 +12,7 @@ use Rattle.j2k_base.specs.declared.constants.CExpr.TheVariants.{rolls-Two, rolls
 use Rattle.j2k_base.specs.declared.constants.Value.TheVariants as value
 use Rattle.const_fold.specs.declared.folding.Part.{Part}
 use Rattle.const_fold.specs.declared.folding.Part.TheVariants.{Number, Text}
-use Rattle.const_fold.specs.Constants.{text_of, value2, as_value, joined, on_texts, same_text, two_value, on_two, chosen_number, chosen_value, on_three, value_at, value_of}
+use Rattle.const_fold.specs.Constants.{text_of, value2, as_value, joined, on_texts, two_value, on_two, chosen_number, chosen_value, on_three, value_at, value_of}
 use Rattle.const_fold.specs.Parts.{HasPart, as_part, before_right, joined_part, texts_part, texts_units, two_part, two_units, chosen_part}
 
 -- equal values, parts and units

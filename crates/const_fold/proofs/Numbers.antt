@@ -1,8 +1,8 @@
 -- What machine integers compute, as whole numbers cut to a width.
-use Rattle.std.proofs.Common.{◌≡◌, ℕ, ◌+◌, ◌-◌, ◌*◌, ◌<◌, ◌≤◌, ◌/◌, ◌%◌, ◌^◌, zero, suc, ap, sym, ◌∙◌, refl, bit_and, bit_or, w8, w32, w64, ℤ, pos, ◌+ℤ◌, ◌-ℤ◌, ◌*ℤ◌, FitsSigned, to_z, of_z, arith}
+use Rattle.std.proofs.Common.{◌≡◌, ℕ, ◌*◌, ◌<◌, ◌≤◌, ◌/◌, ◌%◌, ◌^◌, zero, suc, ap, sym, ◌∙◌, bit_and, bit_or, w8, w32, w64, ℤ, pos, ◌*ℤ◌, FitsSigned, to_z, of_z, arith}
 use Rattle.std.specs.Prelude.{unsigned_abs, bit_xor, int_div, negsuc, neg_ℤ}
 use Rattle.std.specs.Int.{Width, w16, w128, int_wrap, int_rem_euclid, int_wrapping_neg}
-use Rattle.std.proofs.lemmas.Int.{to_z-of_z, SFits-int_wrap, int_wrap-mul_right, wrapping_add_is, wrapping_sub_is, wrapping_neg_is, wrapping_mul-bits, ints}
+use Rattle.std.proofs.lemmas.Int.{to_z-of_z, SFits-int_wrap, int_wrap-mul_right, wrapping_neg_is, wrapping_mul-bits}
 use Rattle.std.proofs.lemmas.Nat.{and_le_l, or_lt, xor_lt, shr_le}
 use Rattle.std.proofs.Math.Nat.{mod-eq_of_lt, mod-lt, lt_of_le_of_lt, lt_of_lt_of_le, div-le_self}
 use Rattle.std.proofs.Math.Pow.{pow-lt}

@@ -1,4 +1,4 @@
-use Rattle.std.proofs.Common.{◌≡◌, ap, ◌∙◌, sym, rules, w8, w32, w64, FitsSigned}
+use Rattle.std.proofs.Common.{ap, ◌∙◌, sym, rules, w8, w32}
 use Rattle.std.specs.Int.{w16}
 use Rattle.const_fold.specs.Constants.{cut}
 use Rattle.j2k_base.specs.declared.constants.Const.TheVariants as constant

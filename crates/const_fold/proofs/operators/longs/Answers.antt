@@ -1,9 +1,8 @@
-use Rattle.std.proofs.Common.{◌≡◌, ap, ◌∙◌, sym, Some, ℤ, arith, w64}
+use Rattle.std.proofs.Common.{ap, ◌∙◌, sym, Some, ℤ, arith, w64}
 use Rattle.std.proofs.lemmas.Grind.{common_steps}
 use Rattle.std.proofs.lemmas.Int.{wrapping_add_is, wrapping_sub_is}
 use Rattle.j2k_base.specs.declared.constants.Op2.{Op2}
 use Rattle.j2k_base.specs.declared.constants.Kind.TheVariants as kind
-use Rattle.j2k_base.specs.declared.constants.Const.{Const}
 use Rattle.j2k_base.specs.declared.constants.Const.TheVariants as constant
 use Rattle.const_fold.specs.Constants.{operated}
 use Rattle.const_fold.proofs.Numbers.{and_is, or_is, xor_is, division_is}
