@@ -1,10 +1,10 @@
 // Trees, with the values that Java 17 gives.
 
 use crate::fold;
-use j2k_base::CExpr::{self, Leaf, Two};
-use j2k_base::Const::{self, Bool, Byte, Char, Int, Long};
+use j2k_base::CExpr::{self, Cast, Choose, Flip, Leaf, Minus, Not, Plus, Two};
+use j2k_base::Const::{self, Bool, Byte, Char, Int, Long, Short};
 use j2k_base::Op2::Add;
-use j2k_base::{NoMemory, Units, Value};
+use j2k_base::{Kind, NoMemory, Units, Value};
 use sqlite_items::Boxed;
 use std::alloc::Global;
 use std::test::Fail;
@@ -46,5 +46,73 @@ fn sums(rt: HostRuntime) -> Result<(), Fail> {
         _ => false,
     };
     assert!(rt; same);
+    Ok(())
+}
+
+fn boxed(alloc: Global, c: Const) -> Result<Boxed<CExpr>, NoMemory> {
+    Ok(Boxed::new(alloc, Leaf(Value::Number(c)))?)
+}
+
+// The number of a tree, and false where it has none.
+fn number_of(alloc: Global, e: &CExpr) -> Result<Const, NoMemory> {
+    match fold(alloc, e)? {
+        Some(Value::Number(c)) => Ok(c),
+        _ => Ok(Bool(false)),
+    }
+}
+
+fn choose(alloc: Global, p: bool, a: Const, b: Const) -> Result<CExpr, NoMemory> {
+    let condition = boxed(alloc, Bool(p))?;
+    let left = boxed(alloc, a)?;
+    Ok(Choose(condition, left, boxed(alloc, b)?))
+}
+
+#[test]
+fn conditionals(rt: HostRuntime) -> Result<(), Fail> {
+    let cases = [
+        (true, Byte(1), Int(200), Int(1)),
+        (true, Byte(1), Int(100), Byte(1)),
+        (false, Char(97), Int(98), Char(98)),
+        (true, Int(1), Long(2), Long(1)),
+        (false, Short(1), Byte(2), Short(2)),
+        (true, Char(97), Byte(2), Int(97)),
+        (false, Int(-1), Char(97), Int(97)),
+        (false, Bool(false), Bool(true), Bool(true)),
+    ];
+    for (p, a, b, want) in cases {
+        let e = choose(rt.alloc(), p, a, b)?;
+        let found = number_of(rt.alloc(), &e)?;
+        assert_eq!(rt; found, want);
+    }
+    Ok(())
+}
+
+fn unary(alloc: Global, sign: u8, a: Const) -> Result<CExpr, NoMemory> {
+    let a = boxed(alloc, a)?;
+    Ok(match sign {
+        b'+' => Plus(a),
+        b'-' => Minus(a),
+        b'~' => Flip(a),
+        b'!' => Not(a),
+        _ => Cast(Kind::Byte, a),
+    })
+}
+
+#[test]
+fn signs(rt: HostRuntime) -> Result<(), Fail> {
+    let cases = [
+        (b'~', Int(5), Int(-6)),
+        (b'~', Long(9223372036854775807), Long(-9223372036854775808)),
+        (b'-', Byte(-128), Int(128)),
+        (b'-', Int(-2147483648), Int(-2147483648)),
+        (b'+', Char(97), Int(97)),
+        (b'!', Bool(false), Bool(true)),
+        (b'b', Int(200), Byte(-56)),
+    ];
+    for (sign, a, want) in cases {
+        let e = unary(rt.alloc(), sign, a)?;
+        let found = number_of(rt.alloc(), &e)?;
+        assert_eq!(rt; found, want);
+    }
     Ok(())
 }
