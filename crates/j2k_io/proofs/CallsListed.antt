@@ -1,5 +1,5 @@
 -- Where no call is listed, none fails.
-use Rattle.std.proofs.Common.{◌≡◌, ◌≢◌, ℕ, Bool, true, false, cond, nat_lt, List, [], Option, Some, None, refl, ◌∙◌, ap}
+use Rattle.std.proofs.Common.{◌≡◌, ◌≢◌, ℕ, Bool, true, false, cond, nat_lt, List, [], Some, None, refl, ◌∙◌, ap}
 use Rattle.j2k_io.specs.declared.calls.Fail.{Fail}
 use Rattle.j2k_io.specs.Calls.{last_call, next_keep}
 
