@@ -8,7 +8,9 @@ mod file_map;
 mod names;
 mod places;
 mod series;
+mod tables;
 mod texts;
+mod widths;
 
 pub use choices::{Choice, ChoiceKind, Choices};
 pub use constants::{CExpr, Const, Kind, Op2, Value};
@@ -17,7 +19,9 @@ pub use file_map::FileMap;
 pub use names::Name;
 pub use places::{Fault, Phase, Place, Stop};
 pub use series::{EntryNames, FileBytes, Paths, Series, SourceFile, SourceFiles, Units, Words};
+pub use tables::{Row, Table};
 pub use texts::Text;
+pub use widths::{wrap_i8, wrap_i16, wrap_i32, wrap_i64, wrap_u16};
 
 #[cfg(test)]
 mod tests;

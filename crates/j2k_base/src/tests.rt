@@ -54,3 +54,25 @@ fn file_maps(rt: HostRuntime) -> Result<(), Fail> {
     assert_eq!(rt; files.entries().len(), 4);
     Ok(())
 }
+
+const LETTERS: [Row<u8>; 2] = [Row { key: "a", value: 1 }, Row { key: "b", value: 2 }];
+
+#[test]
+fn tables(rt: HostRuntime) {
+    let letters = Table::new(&LETTERS);
+    assert_eq!(rt; letters.get(b"a").copied(), Some(1));
+    assert_eq!(rt; letters.get(b"b").copied(), Some(2));
+    assert!(rt; letters.get(b"c").is_none());
+}
+
+#[test]
+fn widths(rt: HostRuntime) {
+    assert_eq!(rt; wrap_i8(200), -56);
+    assert_eq!(rt; wrap_i16(-32_769), 32_767);
+    assert_eq!(rt; wrap_i32(2_147_483_648), -2_147_483_648);
+    assert_eq!(rt;
+        wrap_i64(-9_223_372_036_854_775_809),
+        9_223_372_036_854_775_807
+    );
+    assert_eq!(rt; wrap_u16(-1), 65_535);
+}

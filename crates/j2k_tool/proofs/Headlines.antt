@@ -1,8 +1,7 @@
 -- A conversion that was answered is the headline.
-use Rattle.std.proofs.Common.{◌≡◌, ◌⊎◌, inl, inr, ℕ, List, [], ◌∷◌, Option, Some, None, IfSome, refl, sym, ◌∙◌, ap}
+use Rattle.std.proofs.Common.{◌≡◌, inl, inr, ℕ, List, [], ◌∷◌, Option, Some, None, IfSome, refl, ◌∙◌, ap}
 use Rattle.j2k_io.specs.Disks.{Files, listing, with_files}
 use Rattle.meanings.specs.declared.java.JClass.{JClass}
-use Rattle.meanings.specs.declared.kotlin.KClass.{KClass}
 use Rattle.meanings.specs.Convert.{class_of}
 use Rattle.meanings.specs.KText.{KText}
 use Rattle.meanings.proofs.Headline.{same_steps}
@@ -10,7 +9,7 @@ use Rattle.meanings.proofs.Spelling.{spells_one}
 use Rattle.meanings.proofs.Typed.{types_are_kept, spelling_is_kept}
 use Rattle.j2k_tool.specs.declared.status.Status.{Status}
 use Rattle.j2k_tool.specs.declared.status.Status.TheVariants.{Done, Usage, NotEmpty, Refused}
-use Rattle.j2k_tool.specs.Asks.{Answer, converted, usage, not_empty, refused, Converts, AsksOver, AsksOf, Asks, Answered, Told}
+use Rattle.j2k_tool.specs.Asks.{Answer, converted, usage, not_empty, refused, Converts, AsksOver, AsksOf, Asks, Answered}
 use Rattle.j2k_tool.specs.Headline.{Headline}
 use Rattle.j2k_tool.specs.Projects.{IsProject}
 use Rattle.j2k_tool.specs.Words.{words_mean}

@@ -1,5 +1,5 @@
 -- A class that is taken is well typed, and its names are those of both languages.
-use Rattle.std.proofs.Common.{◌≡◌, ◌<◌, ◌^◌, ℕ, Bool, true, false, cond, ◌&&◌, ◌||◌, not, List, [], ◌∷◌, ◌++◌, length, get_or, map, refl, sym, ◌∙◌, ap, arith}
+use Rattle.std.proofs.Common.{◌≡◌, ◌<◌, ◌^◌, ℕ, Bool, true, false, cond, ◌&&◌, ◌||◌, not, List, [], ◌∷◌, ◌++◌, length, map, refl, sym, ◌∙◌, ap, arith}
 use Rattle.std.specs.Prelude.{◌==◌, IsTrue, nat_le, codes}
 use Rattle.std.specs.List.{list_any, list_all}
 use Rattle.std.specs.Str.{bytes_eq}
@@ -21,7 +21,7 @@ use Rattle.meanings.specs.Values.{same_name, is_among}
 use Rattle.j2k_tool.specs.declared.reserved.TheConstants.{JAVA_WORDS, KOTLIN_WORDS, KOTLIN_NAMES, LIBRARY_NAMES}
 use Rattle.j2k_tool.specs.declared.taken.TheConstants.{MAX_NUMBER}
 use Rattle.j2k_tool.specs.declared.texts.TheConstants.{ARGS}
-use Rattle.j2k_tool.specs.Taken.{is_name, is_reserved, is_class, is_local, is_operand, names_local, is_expression, is_declaration, is_statement, names_after, are_statements, is_taken}
+use Rattle.j2k_tool.specs.Taken.{is_name, is_reserved, is_class, is_local, is_operand, names_local, is_expression, is_declaration, are_statements, is_taken}
 use Rattle.j2k_tool.proofs.Numbers.{both_true}
 use Rattle.j2k_tool.proofs.Scopes.{any_image}
 
@@ -35,9 +35,10 @@ words (byte ∷ bytes) all =
 identifier : (name : List ℕ) → is_name name ≡ true → IsIdentifier name
 identifier [] is = cc
 identifier (byte ∷ name) is =
-    let both = both_true (not (length (byte ∷ name) == 0) && is_ascii_alphabetic byte) (list_all is_ascii_alphanumeric (byte ∷ name)) is in
-    ((both_true (not (length (byte ∷ name) == 0)) (is_ascii_alphabetic byte) both.0).1,
-    words name (both_true (is_ascii_alphanumeric byte) (list_all is_ascii_alphanumeric name) both.1).1)
+    let both = both_true (not (length (byte ∷ name) == 0) && is_ascii_alphabetic byte) (list_all is_ascii_alphanumeric (byte ∷ name)) is in (
+      (both_true (not (length (byte ∷ name) == 0)) (is_ascii_alphabetic byte) both.0).1,
+      words name (both_true (is_ascii_alphanumeric byte) (list_all is_ascii_alphanumeric name) both.1).1,
+    )
 
 small : (n : ℕ) → nat_le n MAX_NUMBER ≡ true → n < 2 ^ 31
 small n e = grind (arith, nat_tests)
@@ -174,11 +175,12 @@ not_true false e = refl
 typed_statements : (class : List ℕ) (locals names : List (List ℕ)) (statements : List JStmt) → SameLocals locals names → are_statements class names statements ≡ true → AreTyped locals statements
 typed_statements class locals names [] same are = tt
 typed_statements class locals names (Local name value ∷ more) same are =
-    let both = both_true (is_declaration class names name value) (are_statements class (names ++ name ∷ []) more) are in
-    (same_bytes (codes "args") name ∙ not_true (bytes_eq name ARGS.now) (local_apart class name (declares_local class names name value both.0)),
-    same name ∙ not_true (list_any (bytes_eq name) names) (declares_new class names name value both.0),
-    knows locals names value same (declares_value class names name value both.0),
-    typed_statements class (name ∷ locals) (names ++ name ∷ []) more (one_more locals names name same) both.1)
+    let both = both_true (is_declaration class names name value) (are_statements class (names ++ name ∷ []) more) are in (
+      same_bytes (codes "args") name ∙ not_true (bytes_eq name ARGS.now) (local_apart class name (declares_local class names name value both.0)),
+      same name ∙ not_true (list_any (bytes_eq name) names) (declares_new class names name value both.0),
+      knows locals names value same (declares_value class names name value both.0),
+      typed_statements class (name ∷ locals) (names ++ name ∷ []) more (one_more locals names name same) both.1,
+    )
 typed_statements class locals names (Print value ∷ more) same are =
     let both = both_true (is_expression names value) (are_statements class names more) are in
     (knows locals names value same both.0, typed_statements class locals names more same both.1)

@@ -22,96 +22,137 @@ const LINE: &str = "converted: files 1, classes 1, choices 1\n";
 
 const USAGE: &str = "usage: j2k convert SRC DST | check DIR | explain SRC | sample SEED COUNT\n";
 
-// The words of a line that blanks separate.
-fn words_of(alloc: Global, line: &[&str]) -> Result<Words, NoMemory> {
+const REFUSED: &str = "Main.java:1:1: N0 not built yet\n";
+
+const REFUSED_FOLDER: &str = ".:1:1: N0 not built yet\n";
+
+const READ: &str = "j2k: read fault\n";
+
+const WRITE: &str = "j2k: write fault\n";
+
+// What stands for a file that isn't there.
+const NONE: &str = "-";
+
+// The Java file, another file, the status, what is printed, the Kotlin file and the report.
+const PROJECTS: [(&str, &str, Status, &str, &str, &str); 7] = [
+    (JAVA, "src/notes.txt", Status::Done, LINE, KOTLIN, REPORT),
+    (JAVA, "out2/x", Status::Done, LINE, KOTLIN, REPORT),
+    (NO_BLANKS, "x", Status::Refused, REFUSED, NONE, NONE),
+    (USED_EARLY, "x", Status::Refused, REFUSED, NONE, NONE),
+    (
+        JAVA,
+        "src/B.java",
+        Status::Refused,
+        REFUSED_FOLDER,
+        NONE,
+        NONE,
+    ),
+    (
+        JAVA,
+        "src/j2k.toml",
+        Status::Refused,
+        REFUSED_FOLDER,
+        NONE,
+        NONE,
+    ),
+    (
+        JAVA,
+        "out/x",
+        Status::NotEmpty,
+        "j2k: not empty: out\n",
+        NONE,
+        NONE,
+    ),
+];
+
+// The words, and the status over a project that stands under the second of them.
+const WORDS: [(&str, &str, &str, Status); 8] = [
+    ("convert", "a", "a/b", Status::Usage),
+    ("convert", "a/b/", "./a", Status::Usage),
+    ("convert", "/a", "//a/.", Status::Usage),
+    ("convert", "/a", "a", Status::Done),
+    ("convert", ".", "../out", Status::Done),
+    ("convert", "ab", "a", Status::Done),
+    ("convert", "", "a", Status::Usage),
+    ("check", "a", "b", Status::Usage),
+];
+
+// The call and the put that fail and what each keeps, the status, what is printed, the Kotlin file and the report.
+// The calls are two listings, a read, and the writes of the Kotlin file and of the report; then there is one put.
+const FAILING: [(u32, u32, u32, Status, &str, &str, &str); 13] = [
+    (1, 9, 0, Status::ReadFault, READ, NONE, NONE),
+    (2, 9, 5, Status::ReadFault, READ, NONE, NONE),
+    (3, 9, 0, Status::ReadFault, READ, NONE, NONE),
+    (4, 9, 0, Status::WriteFault, WRITE, "", NONE),
+    (4, 9, 10, Status::WriteFault, WRITE, "class Main", NONE),
+    (4, 9, 999, Status::WriteFault, WRITE, KOTLIN, NONE),
+    (5, 9, 3, Status::WriteFault, WRITE, KOTLIN, "j2k"),
+    (6, 9, 3, Status::Done, LINE, KOTLIN, REPORT),
+    (9, 1, 0, Status::OutFault, "", KOTLIN, REPORT),
+    (9, 1, 9, Status::OutFault, "converted", KOTLIN, REPORT),
+    (1, 1, 4, Status::ReadFault, "j2k:", NONE, NONE),
+    (5, 1, 4, Status::WriteFault, "j2k:", KOTLIN, "j2k-"),
+    (9, 2, 0, Status::Done, LINE, KOTLIN, REPORT),
+];
+
+fn words_of(alloc: Global, command: &str, src: &str, dst: &str) -> Result<Words, NoMemory> {
     let mut words = Words::new(alloc);
-    for word in line {
-        words.push(Text::from_str(alloc, word)?)?;
-    }
+    words.push(Text::from_str(alloc, command)?)?;
+    words.push(Text::from_str(alloc, src)?)?;
+    words.push(Text::from_str(alloc, dst)?)?;
     Ok(words)
 }
 
-// A map of a Java file, and of another file.
-fn files_of(alloc: Global, java: &str, other: &str) -> Result<FileMap, NoMemory> {
+// A map of a Java file under a folder, and of another file.
+fn files_of(alloc: Global, src: &str, java: &str, other: &str) -> Result<FileMap, NoMemory> {
+    let mut path = Text::from_str(alloc, src)?;
+    path.push_str("/Main.java")?;
     let mut files = FileMap::new(alloc);
-    files.insert_copy(&Text::from_str(alloc, "src/Main.java")?, java.as_bytes())?;
+    files.insert_copy(&path, java.as_bytes())?;
     files.insert_copy(&Text::from_str(alloc, other)?, b"")?;
     Ok(files)
 }
 
-// Whether a file has these bytes; those of no file are `-`.
+// Whether a file has these bytes.
 fn holds(alloc: Global, files: &FileMap, path: &str, want: &str) -> Result<bool, NoMemory> {
     let path = Text::from_str(alloc, path)?;
     Ok(match files.get(&path) {
         Some(bytes) => bytes.as_slice() == want.as_bytes(),
-        None => want == "-",
+        None => want == NONE,
     })
 }
 
-// A list of one failing call, or of none where its number is 0.
+// Whether the Kotlin file and the report have these bytes.
+fn made(alloc: Global, files: &FileMap, kotlin: &str, report: &str) -> Result<bool, NoMemory> {
+    let has_kotlin = holds(alloc, files, "out/Main.kt", kotlin)?;
+    let has_report = holds(alloc, files, "out/j2k-report.txt", report)?;
+    Ok(has_kotlin && has_report)
+}
+
+// One failing call.
 fn one_fail(alloc: Global, call: u32, keep: u32) -> Result<Fails, NoMemory> {
     let mut fails = Fails::new(alloc);
     fails.push(Fail { call, keep })?;
     Ok(fails)
 }
 
+// Whether a run over steady files ends and prints so.
+fn ends(alloc: Global, words: &Words, disk: &mut SteadyDisk, status: Status, text: &str) -> bool {
+    let mut out = MemSink::new(alloc, Fails::new(alloc));
+    let answer = run(alloc, words, disk, &mut out);
+    answer == status && out.bytes() == text.as_bytes()
+}
+
 #[test]
 fn projects(rt: HostRuntime) -> Result<(), Failure> {
     let alloc = rt.alloc();
-    for (java, other, status, printed, kotlin) in [
-        (JAVA, "src/notes.txt", Status::Done, LINE, KOTLIN),
-        (JAVA, "out2/x", Status::Done, LINE, KOTLIN),
-        (
-            NO_BLANKS,
-            "x",
-            Status::Refused,
-            "Main.java:1:1: N0 not built yet\n",
-            "-",
-        ),
-        (
-            USED_EARLY,
-            "x",
-            Status::Refused,
-            "Main.java:1:1: N0 not built yet\n",
-            "-",
-        ),
-        (
-            JAVA,
-            "src/a/B.java",
-            Status::Refused,
-            ".:1:1: N0 not built yet\n",
-            "-",
-        ),
-        (
-            JAVA,
-            "src/j2k.toml",
-            Status::Refused,
-            ".:1:1: N0 not built yet\n",
-            "-",
-        ),
-        (
-            JAVA,
-            "out/x",
-            Status::NotEmpty,
-            "j2k: not empty: out\n",
-            "-",
-        ),
-    ] {
-        let words = words_of(alloc, &["convert", "src", "out"])?;
-        let mut disk = SteadyDisk::new(files_of(alloc, java, other)?);
-        let mut out = MemSink::new(alloc, Fails::new(alloc));
-        let answer = run(alloc, &words, &mut disk, &mut out);
-        assert_eq!(rt; answer, status, "with {other}");
-        assert_eq!(rt; out.bytes(), printed.as_bytes(), "with {other}");
-        assert!(rt;
-            holds(alloc, disk.files(), "out/Main.kt", kotlin)?,
-            "with {other}"
-        );
-        let report = if kotlin == "-" { "-" } else { REPORT };
-        assert!(rt;
-            holds(alloc, disk.files(), "out/j2k-report.txt", report)?,
-            "with {other}"
-        );
+    let words = words_of(alloc, "convert", "src", "out")?;
+    for (java, other, status, text, kotlin, report) in PROJECTS {
+        let mut disk = SteadyDisk::new(files_of(alloc, "src", java, other)?);
+        let ended = ends(alloc, &words, &mut disk, status, text);
+        assert!(rt; ended, "with {other}");
+        let is_made = made(alloc, disk.files(), kotlin, report)?;
+        assert!(rt; is_made, "with {other}");
     }
     Ok(())
 }
@@ -119,73 +160,32 @@ fn projects(rt: HostRuntime) -> Result<(), Failure> {
 #[test]
 fn command_words(rt: HostRuntime) -> Result<(), Failure> {
     let alloc = rt.alloc();
-    for (command, src, dst, status) in [
-        ("convert", "a", "a/b", Status::Usage),
-        ("convert", "a/b/", "./a", Status::Usage),
-        ("convert", "/a", "//a/.", Status::Usage),
-        ("convert", "/a", "a", Status::Done),
-        ("convert", ".", "../out", Status::Done),
-        ("convert", "ab", "a", Status::Done),
-        ("convert", "", "a", Status::Usage),
-        ("check", "a", "b", Status::Usage),
-    ] {
-        let words = words_of(alloc, &[command, src, dst])?;
-        let mut files = FileMap::new(alloc);
-        let path = format!(in alloc; "{src}/Main.java")?;
-        files.insert_copy(&Text::from_string(path), JAVA.as_bytes())?;
-        let mut disk = SteadyDisk::new(files);
-        let mut out = MemSink::new(alloc, Fails::new(alloc));
-        let answer = run(alloc, &words, &mut disk, &mut out);
-        assert_eq!(rt; answer, status, "for {src} {dst}");
-        let printed = if status == Status::Done { LINE } else { USAGE };
-        assert_eq!(rt; out.bytes(), printed.as_bytes(), "for {src} {dst}");
+    for (command, src, dst, status) in WORDS {
+        let words = words_of(alloc, command, src, dst)?;
+        let mut disk = SteadyDisk::new(files_of(alloc, src, JAVA, "x")?);
+        let text = if status == Status::Done { LINE } else { USAGE };
+        let ended = ends(alloc, &words, &mut disk, status, text);
+        assert!(rt; ended, "for {src} {dst}");
     }
-    let none = run(
-        alloc,
-        &Words::new(alloc),
-        &mut SteadyDisk::new(FileMap::new(alloc)),
-        &mut MemSink::new(alloc, Fails::new(alloc)),
-    );
-    assert_eq!(rt; none, Status::Usage);
+    let mut disk = SteadyDisk::new(FileMap::new(alloc));
+    let ended = ends(alloc, &Words::new(alloc), &mut disk, Status::Usage, USAGE);
+    assert!(rt; ended);
     Ok(())
 }
 
-// The calls are two listings, a read, and the writes of the Kotlin file and of the report; then one put.
 #[test]
 fn failing_calls(rt: HostRuntime) -> Result<(), Failure> {
     let alloc = rt.alloc();
-    let read = "j2k: read fault\n";
-    let write = "j2k: write fault\n";
-    for (call, put, keep, status, printed, kotlin, report) in [
-        (1, 9, 0, Status::ReadFault, read, "-", "-"),
-        (2, 9, 5, Status::ReadFault, read, "-", "-"),
-        (3, 9, 0, Status::ReadFault, read, "-", "-"),
-        (4, 9, 0, Status::WriteFault, write, "", "-"),
-        (4, 9, 10, Status::WriteFault, write, "class Main", "-"),
-        (4, 9, 999, Status::WriteFault, write, KOTLIN, "-"),
-        (5, 9, 3, Status::WriteFault, write, KOTLIN, "j2k"),
-        (6, 9, 3, Status::Done, LINE, KOTLIN, REPORT),
-        (9, 1, 0, Status::OutFault, "", KOTLIN, REPORT),
-        (9, 1, 9, Status::OutFault, "converted", KOTLIN, REPORT),
-        (1, 1, 4, Status::ReadFault, "j2k:", "-", "-"),
-        (5, 1, 4, Status::WriteFault, "j2k:", KOTLIN, "j2k-"),
-        (9, 2, 0, Status::Done, LINE, KOTLIN, REPORT),
-    ] {
-        let words = words_of(alloc, &["convert", "src", "out"])?;
-        let mut disk = MemDisk::new(files_of(alloc, JAVA, "x")?, one_fail(alloc, call, keep)?);
+    let words = words_of(alloc, "convert", "src", "out")?;
+    for (call, put, keep, status, text, kotlin, report) in FAILING {
+        let files = files_of(alloc, "src", JAVA, "x")?;
+        let mut disk = MemDisk::new(files, one_fail(alloc, call, keep)?);
         let mut out = MemSink::new(alloc, one_fail(alloc, put, keep)?);
         let answer = run(alloc, &words, &mut disk, &mut out);
-        assert_eq!(rt; answer, status, "at {call}, {put}, {keep}");
-        assert_eq!(rt; out.bytes(), printed.as_bytes(), "at {call}, {put}, {keep}");
-        assert!(rt;
-            holds(alloc, disk.files(), "out/Main.kt", kotlin)?,
-            "at {call}, {put}, {keep}"
-        );
-        assert!(rt;
-            holds(alloc, disk.files(), "out/j2k-report.txt", report)?,
-            "at {call}, {put}, {keep}"
-        );
-        assert!(rt; holds(alloc, disk.files(), "src/Main.java", JAVA)?);
+        let ended = answer == status && out.bytes() == text.as_bytes();
+        assert!(rt; ended, "at {call}, {put}, {keep}");
+        let is_made = made(alloc, disk.files(), kotlin, report)?;
+        assert!(rt; is_made, "at {call}, {put}, {keep}");
     }
     Ok(())
 }
