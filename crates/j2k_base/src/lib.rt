@@ -1,7 +1,8 @@
-//! What all other crates speak of: texts and names, lists of them, places, faults and want of memory.
+//! What all other crates speak of: texts and names, lists of them, constants, places, faults and want of memory.
 #![tactic(auto)]
 
 mod choices;
+mod constants;
 mod errors;
 mod file_map;
 mod names;
@@ -12,6 +13,7 @@ mod texts;
 mod widths;
 
 pub use choices::{Choice, ChoiceKind, Choices};
+pub use constants::{CExpr, Const, Kind, Op2, Value};
 pub use errors::NoMemory;
 pub use file_map::FileMap;
 pub use names::Name;
