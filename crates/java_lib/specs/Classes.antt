@@ -1,5 +1,5 @@
 -- Classes by their names and numbers.
-use Rattle.std.specs.Prelude.{◌≡◌, ℕ, List, ◌∷◌, ◌++◌, Option, Bool, true, length, nat_lt, bytes_eq, find}
+use Rattle.std.specs.Prelude.{◌≡◌, ◌≢◌, ◌⊎◌, ℕ, List, ◌∷◌, ◌++◌, Option, Bool, true, length, nat_lt, bytes_eq, find, slice_get, Some}
 use Rattle.std.specs.Option.{option_map, option_map_or, option_or}
 use Rattle.j2k_base.specs.declared.tables.Row.{Row}
 use Rattle.java_lib.specs.declared.rows.ClassRow.{ClassRow}
@@ -34,3 +34,17 @@ value_qualified name rows = option_map (λ row. row.value) (find (λ row. bytes_
 -- what stands above a class, if anything, is a class
 abbrev pub above_stands : Class → Bool
 above_stands class = option_map_or (λ above. nat_lt above (length classes)) class.above true
+
+abbrev pub HasName : List ℕ → Named → Type 0
+HasName name class = (class.0 ≡ name) ⊎ (qualified class ≡ name)
+
+abbrev pub HasNoName : List ℕ → Named → Type 0
+HasNoName name class = (class.0 ≢ name) × (qualified class ≢ name)
+
+-- a class's number is its place
+abbrev pub HasItsPlace : Class → Type 0
+HasItsPlace class = option_map (λ found. found.1) (slice_get classes class.number) ≡ Some class
+
+-- how many type parameters the class of a number has
+abbrev pub params_of : ℕ → ℕ
+params_of class = option_map_or (λ (found : Named). found.1.params) (slice_get classes class) 0

@@ -1,5 +1,5 @@
 -- Facts of the library's members.
-use Rattle.std.specs.Prelude.{ℕ, Bool, true, false, ◌&&◌, ◌==◌, not, List, [], ◌∷◌, Option, Some, None, map, bytes_eq, nat_lt}
+use Rattle.std.specs.Prelude.{ℕ, Bool, true, false, ◌&&◌, ◌==◌, not, List, [], ◌∷◌, length, bytes_eq, nat_lt}
 use Rattle.std.specs.List.{list_all, list_any}
 use Rattle.std.specs.Option.{option_map_or}
 use Rattle.j2k_base.specs.declared.constants.Kind.{Kind}
@@ -8,7 +8,8 @@ use Rattle.java_lib.specs.declared.rows.LibKind.{LibKind}
 use Rattle.java_lib.specs.declared.rows.LibKind.TheVariants.{Void, Boolean, Number, Object, Variable, Chars}
 use Rattle.java_lib.specs.declared.rows.LibType.{LibType}
 use Rattle.java_lib.specs.declared.rows.MemberRow.{MemberRow}
-use Rattle.java_lib.specs.Library.{Member}
+use Rattle.java_lib.specs.Library.{Member, classes}
+use Rattle.java_lib.specs.Classes.{params_of}
 
 -- what a row says
 abbrev pub member_of : MemberRow → Member
@@ -45,15 +46,19 @@ abbrev pub members_differ : List Member → Bool
 members_differ [] = true
 members_differ (row ∷ rows) = not (list_any (same_member row) rows) && members_differ rows
 
--- the class or the type parameter of the class that a type names is one of so many
+-- the class, or the type parameter of the class, that a type names is one of so many
 abbrev pub kind_stands : ℕ → ℕ → LibKind → Bool
-kind_stands classes params (Object class) = nat_lt class classes
-kind_stands classes params (Variable place) = nat_lt place params
-kind_stands classes params _ = true
+kind_stands count params (Object class) = nat_lt class count
+kind_stands count params (Variable place) = nat_lt place params
+kind_stands count params _ = true
 
 -- so are those that a member names
 abbrev pub member_stands : ℕ → ℕ → Member → Bool
-member_stands classes params row =
-    list_all (λ (param : LibType). kind_stands classes params param.kind) row.params
-    && kind_stands classes params row.result.kind
-    && option_map_or (λ class. nat_lt class classes) row.throws true
+member_stands count params row =
+    list_all (λ (param : LibType). kind_stands count params param.kind) row.params
+    && kind_stands count params row.result.kind
+    && option_map_or (λ class. nat_lt class count) row.throws true
+
+-- so are those that the members of the class of a number name
+abbrev pub members_stand : ℕ → List Member → Bool
+members_stand class rows = list_all (member_stands (length classes) (params_of class)) rows

@@ -1,10 +1,10 @@
 // The classes of the library, in the order of their numbers.
-ghost use Rattle.std.specs.Prelude.{◌≡◌, IsTrue, IfSome, map};
+ghost use Rattle.std.specs.Prelude.{◌≡◌, ◌↔◌, IsTrue, IsNone, IfSome, All, Some, map};
 ghost use Rattle.std.specs.Str.{bytes_eq};
 ghost use Rattle.std.specs.Option.{option_copied, option_map};
 ghost use Rattle.j2k_base.specs.Keys.{keys_differ};
 ghost use Rattle.java_lib.specs.Library.{classes};
-ghost use Rattle.java_lib.specs.Classes.{named, qualified, class_of, class_named, value_qualified, above_stands};
+ghost use Rattle.java_lib.specs.Classes.{named, qualified, class_of, class_named, value_qualified, above_stands, HasName, HasNoName, HasItsPlace};
 
 use crate::numbers::*;
 use crate::rows::ClassRow;
@@ -223,6 +223,9 @@ static CLASSES: [Row<ClassRow>; 37] = [
 /// The class of this simple or qualified name. It takes no memory.
 pub fn class_row(name: &[u8]) -> Option<&'static ClassRow>
     ensures value { option_map class_of (option_copied result) ≡ class_named name.now classes }
+    ensures named { All (λ class. HasName name.now class → option_map class_of (option_copied result) ≡ Some class.1) classes }
+    ensures absent { IsNone result ↔ All (HasNoName name.now) classes }
+    ensures number { IfSome result (λ row. HasItsPlace (class_of row.now)) }
     ensures above { IfSome result (λ row. IsTrue (above_stands (class_of row.now))) }
 {
     let rows = class_rows();

@@ -1,7 +1,7 @@
 // The members of the classes of the library.
 ghost use Rattle.std.specs.Prelude.{◌≡◌, ◌<◌, ◌≤◌, IsTrue, Some, length, slice_get, map};
 ghost use Rattle.java_lib.specs.Library.{members};
-ghost use Rattle.java_lib.specs.Members.{member_of, members_differ};
+ghost use Rattle.java_lib.specs.Members.{member_of, members_differ, members_stand};
 
 use crate::numbers;
 use crate::rows::{Form, LibKind, LibType, Mark, MemberRow};
@@ -335,10 +335,10 @@ static NO_CLASS_DEF_FOUND_ERROR_MEMBERS: [MemberRow; 3] = throwable!(
 );
 
 /// The members of the class of this number. It takes no memory.
-#[tactic(auto, using(crate::proofs::Facts::distinct_at))]
 pub fn member_rows(class: u8) -> &'static [MemberRow]
     requires { class < length members }
     ensures value { slice_get members class ≡ Some (map member_of result.now) }
+    ensures stands { IsTrue (members_stand class (map member_of result.now)) }
     ensures distinct { IsTrue (members_differ (map member_of result.now)) }
 {
     if class < numbers::ARRAY_LIST {

@@ -1,12 +1,11 @@
-use Rattle.std.proofs.Common.{◌≡◌, ◌∙◌, List, map, ap}
+use Rattle.std.proofs.Common.{◌≡◌, ◌∙◌, ap}
 use Rattle.std.specs.Option.{option_map, option_copied}
-use Rattle.j2k_base.specs.declared.tables.Row.{Row}
 use Rattle.j2k_base.specs.Keys.{value_beside}
-use Rattle.java_lib.specs.declared.rows.ClassRow.{ClassRow}
-use Rattle.java_lib.specs.Library.{Named, classes}
-use Rattle.java_lib.specs.Classes.{class_of, named, class_simple, class_qualified, class_named}
+use Rattle.java_lib.specs.Library.{classes}
+use Rattle.java_lib.specs.Classes.{class_of, class_simple, class_qualified, class_named}
 use Rattle.java_lib.proofs.Naming.{simple_is, qualified_is, either_is}
-use Rattle.java_lib.proofs.Facts.{above_of_named}
+use Rattle.java_lib.proofs.Finding.{named_at, absent_where}
+use Rattle.java_lib.proofs.Facts.{above_of_named, place_of_named}
 use Rattle.java_lib.proofs.classes.class_row.Goals as goal
 
 pub returns : goal.returns
@@ -20,4 +19,4 @@ returns c =
     ap (option_map class_of) c.first_qualified.ensures ∙ qualified_is name rows ∙ ap (class_qualified name) c.class_rows-rows.ensures.rows in
     let value : option_map class_of (option_copied c.or.result) ≡ class_named name classes =
     ap (λ found. option_map class_of (option_copied found)) c.or.ensures ∙ either_is _ _ _ _ simple long in
-    record { value = value; above = above_of_named name c.or.result value }
+    record { value = value; named = named_at name c.or.result value; absent = absent_where name c.or.result value; number = place_of_named name c.or.result value; above = above_of_named name c.or.result value }
