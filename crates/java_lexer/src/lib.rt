@@ -1,0 +1,4 @@
+//! The tokens of a Java file.
+#![tactic(auto)]
+
+mod letters;
