@@ -126,7 +126,10 @@ fn character_of(a: u32, b: u32, c: u32, d: u32) -> RawFront
     } else if is_three(a, b, c) {
         RawFront::Plain(((a - 0xE0) * 64 + (b - 0x80)) * 64 + (c - 0x80), 3)
     } else if is_four(a, b, c, d) {
-        RawFront::Plain((((a - 0xF0) * 64 + (b - 0x80)) * 64 + (c - 0x80)) * 64 + (d - 0x80), 4)
+        RawFront::Plain(
+            (((a - 0xF0) * 64 + (b - 0x80)) * 64 + (c - 0x80)) * 64 + (d - 0x80),
+            4,
+        )
     } else {
         RawFront::Stop(Ending::Byte)
     }
@@ -140,11 +143,16 @@ fn character_front(bytes: &[u8]) -> RawFront
     ensures takes { Takes (length bytes.now) result }
     ensures unit { IsUnit result }
 {
-    character_of(byte(bytes, 0), byte(bytes, 1), byte(bytes, 2), byte(bytes, 3))
+    character_of(
+        byte(bytes, 0),
+        byte(bytes, 1),
+        byte(bytes, 2),
+        byte(bytes, 3),
+    )
 }
 
 /// The value of a hexadecimal digit, else a number from 16 on.
-fn digit(b: u32) -> u32
+pub fn digit(b: u32) -> u32
     ensures value { result ≡ digit_value b }
     ensures small { result ≤ 36 }
     ensures some { result < 36 → b ≢ 0 }
