@@ -5,3 +5,5 @@ pub mod Numbers
 pub mod Literals
 pub mod Words
 pub mod Marks
+pub mod Names
+pub mod Pieces

@@ -5,6 +5,8 @@ mod found;
 mod letters;
 mod literals;
 mod marks;
+mod names;
 mod numbers;
+mod pieces;
 mod scans;
 mod words;
