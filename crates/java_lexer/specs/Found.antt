@@ -1,10 +1,10 @@
 -- What a text begins with, and what is left behind it.
-use Rattle.std.specs.Prelude.{ℕ, List}
+use Rattle.std.specs.Prelude.{ℕ, Bool, true, false, List}
 use Rattle.java_tree.specs.declared.tokens.Position.{Position}
 use Rattle.java_tree.specs.declared.tokens.TokenKind.{TokenKind}
 use Rattle.java_lexer.specs.declared.found.Code.{Code}
 use Rattle.java_lexer.specs.declared.found.Piece.{Piece}
-use Rattle.java_lexer.specs.declared.found.Piece.TheVariants.{Fault, Comment, Token}
+use Rattle.java_lexer.specs.declared.found.Piece.TheVariants.{End, Fault, White, Comment, Token}
 use Rattle.java_lexer.specs.declared.found.Found.{Found}
 use Rattle.java_lexer.specs.Letters.{Letters, letters}
 use Rattle.java_lexer.specs.Scans.{place_of}
@@ -27,3 +27,11 @@ comment p rest = record { piece = Comment (record { position = p; end = (place_o
 -- what was found in the bytes, with the text behind it
 abbrev pub cut_of : List ℕ → Found → Cut
 cut_of bytes f = record { piece = f.piece; rest = letters bytes f.next }
+
+-- Nothing is cut behind the text's end or a fault.
+abbrev pub is_last : Piece → Bool
+is_last End = true
+is_last (Fault f) = true
+is_last White = false
+is_last (Comment c) = false
+is_last (Token t) = false

@@ -7,3 +7,5 @@ pub mod Words
 pub mod Marks
 pub mod Names
 pub mod Pieces
+pub mod Cutting
+pub mod Lexing

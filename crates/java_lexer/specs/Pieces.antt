@@ -49,6 +49,13 @@ slash_piece p rest t =
 abbrev pub begins_number : ℕ → Letters → Bool
 begins_number c rest = is_decimal c || ((c == 46) && is_decimal (head rest))
 
+-- a number, a word or a mark
+unfoldable pub token_piece : Bool → Position → ℕ → Letters → Letters → Cut
+token_piece minus p c rest t =
+    if begins_number c rest then number_piece minus p c rest
+    else if is_start c then word_piece p c rest
+    else mark_piece p c rest t
+
 -- The piece that a text begins with, behind the mark `-` or anything else.
 unfoldable pub piece_of : Bool → Letters → Cut
 piece_of minus (stop e q) = record { piece = End; rest = stop e q }
@@ -57,6 +64,4 @@ piece_of minus (letter c p rest) =
     else if c == 47 then slash_piece p rest (letter c p rest)
     else if c == 34 then string_piece p rest
     else if c == 39 then character_piece p rest
-    else if begins_number c rest then number_piece minus p c rest
-    else if is_start c then word_piece p c rest
-    else mark_piece p c rest (letter c p rest)
+    else token_piece minus p c rest (letter c p rest)

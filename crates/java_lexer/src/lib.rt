@@ -1,8 +1,10 @@
 //! The tokens of a Java file.
 #![tactic(auto)]
 
+mod cutting;
 mod found;
 mod letters;
+mod lexing;
 mod literals;
 mod marks;
 mod names;
@@ -10,3 +12,5 @@ mod numbers;
 mod pieces;
 mod scans;
 mod words;
+
+pub use lexing::lex;
