@@ -1,7 +1,6 @@
 // The tokens and comments of a file, or its first fault.
 
 ghost use Rattle.std.specs.Prelude.{◌≡◌, ◌-◌, ◌^◌, ◌<◌, ◌⊎◌, List, length, IfOk, IfErr, MatchResult};
-ghost use Rattle.j2k_base.specs.declared.places.Stop.TheVariants.{Memory, Fault};
 ghost use Rattle.java_tree.specs.declared.tokens.JToken.{JToken};
 ghost use Rattle.java_tree.specs.declared.tokens.Comment.{Comment};
 ghost use Rattle.java_lexer.specs.declared.found.LexFault.{LexFault};
@@ -57,11 +56,11 @@ pub fn lex(alloc: Global, path: &Text, bytes: &[u8]) -> Result<Tokens, Stop>
     ensures found { IfOk result (λ t. Lexes bytes.now t.list t.comments) }
     // What is so is returned, unless memory runs out.
     ensures only { (ts : List JToken) (cs : List Comment) → Lexes bytes.now ts cs →
-        MatchResult result (λ t. (t.list ≡ ts) × (t.comments ≡ cs)) (λ e. e ≡ Memory) }
+        MatchResult result (λ t. (t.list ≡ ts) × (t.comments ≡ cs)) (λ e. e ≡ Stop.Memory) }
     // Else the fault is the one at the first place where no case applies.
-    ensures fault { IfErr result (λ e. (e ≡ Memory) ⊎ ((f : LexFault) × (e ≡ Fault (fault_in path.now f)) × Faults bytes.now f)) }
+    ensures fault { IfErr result (λ e. (e ≡ Stop.Memory) ⊎ ((f : LexFault) × (e ≡ Stop.Fault (fault_in path.now f)) × Faults bytes.now f)) }
     ensures first { (f : LexFault) → Faults bytes.now f →
-        MatchResult result (λ t. ⊥) (λ e. (e ≡ Memory) ⊎ (e ≡ Fault (fault_in path.now f))) }
+        MatchResult result (λ t. ⊥) (λ e. (e ≡ Stop.Memory) ⊎ (e ≡ Stop.Fault (fault_in path.now f))) }
 {
     let read = reading_of(alloc, bytes)?;
     match read.fault {
