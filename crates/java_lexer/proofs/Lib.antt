@@ -3,3 +3,5 @@ pub mod Steps
 pub mod Runs
 pub mod Strings
 pub mod Cuts
+pub mod LongestMarks
+pub mod Scanned

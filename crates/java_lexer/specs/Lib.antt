@@ -9,3 +9,4 @@ pub mod Names
 pub mod Pieces
 pub mod Cutting
 pub mod Lexing
+pub mod Laws

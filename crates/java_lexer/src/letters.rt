@@ -318,19 +318,13 @@ fn past_plain(at: Cursor, code: u32, taken: usize) -> Cursor
     let taken = taken as u32;
     let ends = code == 13 || (code == 10 && !at.after_return);
     let begins = code == 13 || code == 10;
+    let line_behind = at.position.line + 1;
+    let column_behind = at.position.column + taken;
     Cursor {
         position: Position {
             offset: at.position.offset + taken,
-            line: if ends {
-                at.position.line + 1
-            } else {
-                at.position.line
-            },
-            column: if begins {
-                1
-            } else {
-                at.position.column + taken
-            },
+            line: if ends { line_behind } else { at.position.line },
+            column: if begins { 1 } else { column_behind },
         },
         after_return: code == 13,
         odd: code == 92 && !at.odd,

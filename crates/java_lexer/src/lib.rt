@@ -3,6 +3,7 @@
 
 mod cutting;
 mod found;
+pub mod laws;
 mod letters;
 mod lexing;
 mod literals;
@@ -14,3 +15,6 @@ mod scans;
 mod words;
 
 pub use lexing::lex;
+
+#[cfg(test)]
+mod tests;

@@ -1,0 +1,37 @@
+-- What the laws of the definitions say.
+use Rattle.std.specs.Prelude.{◌≡◌, ℕ, ◌+◌, ◌<◌, ◌≤◌, Bool, true, false, ◌&&◌, ◌==◌, List, [], ◌∷◌, length, take}
+use Rattle.java_tree.specs.declared.tokens.Mark.{Mark}
+use Rattle.java_tree.specs.Spellings.{mark_text}
+use Rattle.java_lexer.specs.Letters.{Letters, letter, stop}
+use Rattle.java_lexer.specs.Scans.{head, tail, drop_letters}
+
+-- no letter that passes p is left at the front
+abbrev pub Stops : (ℕ → Bool) → Letters → Type 0
+Stops p (letter c q rest) = p c ≡ false
+Stops p (stop e q) = Unit {0}
+
+-- the rest is the text without its letters that pass p, as many as there are at its front
+pub record IsLongest (p : ℕ → Bool) (t rest : Letters) : Type 0 where
+  pub taken : ℕ
+  pub behind : rest ≡ drop_letters taken t
+  pub each : (k : ℕ) → k < taken → p (head (drop_letters k t)) ≡ true
+  pub stops : Stops p rest
+
+-- `*/` stands there
+abbrev pub closes : Letters → Bool
+closes t = (head t == 42) && (head (tail t) == 47)
+
+-- the first `*/` stands behind n letters
+pub record IsFirstClose (t : Letters) (n : ℕ) : Type 0 where
+  pub here : closes (drop_letters n t) ≡ true
+  pub not_before : (k : ℕ) → k < n → closes (drop_letters k t) ≡ false
+
+-- where a text ends
+abbrev pub end_of : Letters → Letters
+end_of (letter c q rest) = end_of rest
+end_of (stop e q) = stop e q
+
+-- a mark of n + 1 characters stands at the front of three, and no longer one does
+pub record IsLongestMark (c d e : ℕ) (m : Mark) (n : ℕ) : Type 0 where
+  pub spelled : take (n + 1) (c ∷ d ∷ e ∷ []) ≡ mark_text m
+  pub no_longer : (k : Mark) → take (length (mark_text k)) (c ∷ d ∷ e ∷ []) ≡ mark_text k → length (mark_text k) ≤ n + 1
