@@ -8,7 +8,7 @@ use Rattle.java_lexer.specs.declared.found.LexFault.{LexFault}
 use Rattle.java_lexer.specs.declared.found.Piece.{Piece}
 use Rattle.java_lexer.specs.declared.cutting.Before.{Before}
 use Rattle.java_lexer.specs.declared.cutting.Before.TheVariants.{Other}
-use Rattle.java_lexer.specs.Letters.{Letters, text_of}
+use Rattle.java_letters.specs.Letters.{Letters, text_of}
 use Rattle.java_lexer.specs.Found.{Cut, is_last}
 use Rattle.java_lexer.specs.Cutting.{next_piece, before_next, Cuts, token_in, comment_in, tokens_of, comments_of, fault_of, Reading}
 

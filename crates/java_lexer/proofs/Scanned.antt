@@ -1,14 +1,14 @@
 -- Runs of letters go as far as they can, and a block comment ends at the first closing mark.
-use Rattle.std.proofs.Common.{◌≡◌, ℕ, zero, suc, ◌+◌, ◌<◌, ◌≤◌, Bool, true, false, ◌&&◌, eqb, cond, refl, sym, ◌∙◌, ap, subst, arith}
+use Rattle.std.proofs.Common.{◌≡◌, ℕ, zero, suc, ◌+◌, ◌<◌, Bool, true, false, cond, refl, sym, ◌∙◌, ap, arith}
 use Rattle.std.proofs.lemmas.Bool.{false≢true}
 use Rattle.java_tree.specs.declared.tokens.Position.{Position}
-use Rattle.java_lexer.specs.declared.letters.Ending.{Ending}
+use Rattle.java_letters.specs.declared.letters.Ending.{Ending}
 use Rattle.java_lexer.specs.declared.found.Code.TheVariants.{Form}
-use Rattle.java_lexer.specs.Letters.{Letters, letter, stop}
-use Rattle.java_lexer.specs.Scans.{head, tail, drop_while, drop_letters}
+use Rattle.java_letters.specs.Letters.{Letters, letter, stop}
+use Rattle.java_letters.specs.Scans.{head, tail, drop_while, drop_letters}
 use Rattle.java_lexer.specs.Found.{fault, comment}
 use Rattle.java_lexer.specs.Pieces.{block_piece}
-use Rattle.java_lexer.specs.Laws.{Stops, IsLongest, closes, IsFirstClose, end_of}
+use Rattle.java_lexer.specs.Laws.{IsLongest, closes, IsFirstClose, end_of}
 
 longest_step : (p : ℕ → Bool) (c : ℕ) (q : Position) (rest : Letters) (b : Bool) → p c ≡ b → IsLongest p rest (drop_while p rest) →
     IsLongest p (letter c q rest) (cond b (drop_while p rest) (letter c q rest))

@@ -1,9 +1,9 @@
 -- What the laws of the definitions say.
-use Rattle.std.specs.Prelude.{◌≡◌, ℕ, ◌+◌, ◌<◌, ◌≤◌, Bool, true, false, ◌&&◌, ◌==◌, List, [], ◌∷◌, length, take}
+use Rattle.std.specs.Prelude.{◌≡◌, ℕ, ◌+◌, ◌<◌, ◌≤◌, Bool, true, false, ◌&&◌, ◌==◌, [], ◌∷◌, length, take}
 use Rattle.java_tree.specs.declared.tokens.Mark.{Mark}
 use Rattle.java_tree.specs.Spellings.{mark_text}
-use Rattle.java_lexer.specs.Letters.{Letters, letter, stop}
-use Rattle.java_lexer.specs.Scans.{head, tail, drop_letters}
+use Rattle.java_letters.specs.Letters.{Letters, letter, stop}
+use Rattle.java_letters.specs.Scans.{head, tail, drop_letters}
 
 -- no letter that passes p is left at the front
 abbrev pub Stops : (ℕ → Bool) → Letters → Type 0

@@ -1,5 +1,3 @@
-pub mod Letters
-pub mod Scans
 pub mod Found
 pub mod Numbers
 pub mod Literals

@@ -7,8 +7,8 @@ use Rattle.java_tree.specs.declared.tokens.TokenKind.TheVariants as kinds
 use Rattle.java_lexer.specs.declared.found.Code.TheVariants as codes
 use Rattle.java_lexer.specs.declared.words.WordKind.{WordKind}
 use Rattle.java_lexer.specs.declared.words.WordKind.TheVariants.{Keyword, Outside, Name}
-use Rattle.java_lexer.specs.Letters.{Letters, letter, stop}
-use Rattle.java_lexer.specs.Scans.{drop_while}
+use Rattle.java_letters.specs.Letters.{Letters, letter, stop}
+use Rattle.java_letters.specs.Scans.{drop_while}
 use Rattle.java_lexer.specs.Found.{Cut, fault, token}
 use Rattle.java_lexer.specs.Words.{word_kind}
 

@@ -4,14 +4,12 @@
 mod cutting;
 mod found;
 pub mod laws;
-mod letters;
 mod lexing;
 mod literals;
 mod marks;
 mod names;
 mod numbers;
 mod pieces;
-mod scans;
 mod words;
 
 pub use lexing::lex;

@@ -1,14 +1,14 @@
 // Words of a text.
 
 ghost use Rattle.std.specs.Prelude.{◌≡◌, ◌++◌, ◌==◌, true, false, encode_utf8, IfOk, IfSome, IfNone};
-ghost use Rattle.java_lexer.specs.Letters.{letters, IsAt, IsFrom};
+ghost use Rattle.java_letters.specs.Letters.{letters, IsAt, IsFrom};
 ghost use Rattle.java_lexer.specs.Found.{cut_of};
 ghost use Rattle.java_lexer.specs.Names.{is_start, is_continue, name_of, dollar_in, word_rest, named, word_piece};
 
 use crate::found::{Code, Found, fault, token};
-use crate::letters::{Cursor, Front, front_at};
 use crate::words::{WordKind, word_kind};
 use j2k_base::{Name, NoMemory};
+use java_letters::{Cursor, Front, front_at};
 use java_tree::{Position, TokenKind};
 use std::alloc::Global;
 

@@ -1,19 +1,18 @@
 // What a text begins with: white space, a comment or a token.
 
 ghost use Rattle.std.specs.Prelude.{◌≡◌, ◌≢◌, ◌<◌, ◌≤◌, false, IsTrue, IfOk};
-ghost use Rattle.java_lexer.specs.Letters.{letters, letter, IsAt, IsFrom};
-ghost use Rattle.java_lexer.specs.Scans.{head, tail, drop_while, drop_letters};
+ghost use Rattle.java_letters.specs.Letters.{letters, letter, IsAt, IsFrom};
+ghost use Rattle.java_letters.specs.Scans.{head, tail, drop_while, drop_letters};
 ghost use Rattle.java_lexer.specs.Found.{cut_of, comment, is_last};
 ghost use Rattle.java_lexer.specs.Pieces.{is_white, is_in, block_piece, mark_piece, slash_piece, begins_number, token_piece, piece_of};
 
 use crate::found::{Code, Found, Piece, fault, token};
-use crate::letters::{Cursor, Front, front_at};
 use crate::literals::{character_piece, is_line_end, string_piece};
 use crate::marks::{MarkKind, mark_of};
 use crate::names::{starting, word_piece};
 use crate::numbers::{is_decimal, number_piece};
-use crate::scans::{head_at, place_at, skip, tail_at};
 use j2k_base::NoMemory;
+use java_letters::{Cursor, Front, front_at, head_at, place_at, skip, tail_at};
 use java_tree::{Comment, Position, TokenKind};
 use std::alloc::Global;
 

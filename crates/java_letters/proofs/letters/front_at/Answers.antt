@@ -1,6 +1,6 @@
 use Rattle.std.proofs.lemmas.Bool.{ne_eqb}
-use Rattle.java_lexer.proofs.Steps.{stop_step, letter_step}
-use Rattle.java_lexer.proofs.letters.front_at.Goals as goal
+use Rattle.java_letters.proofs.Steps.{stop_step, letter_step}
+use Rattle.java_letters.proofs.letters.front_at.Goals as goal
 
 pub returns-in-Stop-clause-value : goal.returns-in-Stop-clause-value
 returns-in-Stop-clause-value c = stop_step c.args.bytes.now c.args.at c.in-Stop.ending c.in-Stop.end c.in-Stop.ensures.value

@@ -1,8 +1,8 @@
 use Rattle.std.proofs.Common.{◌-◌, ◌+◌, ◌∙◌, ap, arith}
-use Rattle.java_lexer.specs.Letters.{letters}
-use Rattle.java_lexer.specs.Scans.{drop_letters}
-use Rattle.java_lexer.proofs.Runs.{drop_more}
-use Rattle.java_lexer.proofs.scans.skip.Goals as goal
+use Rattle.java_letters.specs.Letters.{letters}
+use Rattle.java_letters.specs.Scans.{drop_letters}
+use Rattle.java_letters.proofs.Runs.{drop_more}
+use Rattle.java_letters.proofs.scans.skip.Goals as goal
 
 pub loop-preserved : goal.loop-preserved
 loop-preserved c = record {

@@ -1,7 +1,7 @@
 -- How a text goes on: its first letter, and runs of letters.
 use Rattle.std.specs.Prelude.{ℕ, zero, suc, Bool, if◌then◌else◌}
 use Rattle.java_tree.specs.declared.tokens.Position.{Position}
-use Rattle.java_lexer.specs.Letters.{Letters, letter, stop}
+use Rattle.java_letters.specs.Letters.{Letters, letter, stop}
 
 -- a text's first letter, 0 where it ends
 abbrev pub head : Letters → ℕ

@@ -1,6 +1,6 @@
 use Rattle.std.proofs.Common.{length, ◌-◌, ◌≡◌, ◌+◌, ◌≤◌, drop}
-use Rattle.java_lexer.specs.Letters.{escape_at}
-use Rattle.java_lexer.proofs.letters.escape_at.Given as goal
+use Rattle.java_letters.specs.Letters.{escape_at}
+use Rattle.java_letters.proofs.letters.escape_at.Given as goal
 
 abbrev pub invariant-loop-marks : goal.invariant-loop-marks
 invariant-loop-marks l = (l.marks ≤ length l.bytes) × (escape_at (l.marks + 2) (drop l.marks l.bytes) ≡ escape_at 2 l.bytes)

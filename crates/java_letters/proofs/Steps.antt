@@ -2,11 +2,11 @@
 use Rattle.std.proofs.Common.{◌≡◌, ℕ, zero, suc, ◌-◌, ◌<◌, false, List, [], ◌∷◌, length, drop, eqb, cond, refl, sym, ◌∙◌, ap, subst, arith}
 use Rattle.std.proofs.lemmas.List.{drop-drop, length-drop}
 use Rattle.java_tree.specs.declared.tokens.Position.{Position}
-use Rattle.java_lexer.specs.declared.letters.Cursor.{Cursor}
-use Rattle.java_lexer.specs.declared.letters.Ending.{Ending}
-use Rattle.java_lexer.specs.declared.letters.RawFront.{RawFront}
-use Rattle.java_lexer.specs.declared.letters.RawFront.TheVariants.{Stop, Plain, Escaped}
-use Rattle.java_lexer.specs.Letters.{Letters, letter, stop, raw_front, raw_from, raw_letters, raw_at, letters, without_final, end_without, past_plain, past_escape, Takes}
+use Rattle.java_letters.specs.declared.letters.Cursor.{Cursor}
+use Rattle.java_letters.specs.declared.letters.Ending.{Ending}
+use Rattle.java_letters.specs.declared.letters.RawFront.{RawFront}
+use Rattle.java_letters.specs.declared.letters.RawFront.TheVariants.{Stop, Plain, Escaped}
+use Rattle.java_letters.specs.Letters.{Letters, letter, stop, raw_front, raw_from, raw_letters, raw_at, letters, without_final, end_without, past_plain, past_escape, Takes}
 
 raw_skip : (k : ℕ) (p : Cursor) (bs : List ℕ) → raw_letters k p bs ≡ raw_letters 0 p (drop k bs)
 raw_skip zero p [] = refl

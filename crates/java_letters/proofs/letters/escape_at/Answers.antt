@@ -1,7 +1,7 @@
 use Rattle.std.proofs.Common.{◌<◌, length, sym, ◌∙◌, arith}
-use Rattle.java_lexer.proofs.Escapes.{more_marks, no_mark, marks_end}
-use Rattle.java_lexer.proofs.letters.escape_at.Goals as goal
-use Rattle.java_lexer.proofs.letters.escape_at.Goals.{then-loop-marks-test+else-bytes-marks-eq117, else-loop-marks-test}
+use Rattle.java_letters.proofs.Escapes.{more_marks, no_mark, marks_end}
+use Rattle.java_letters.proofs.letters.escape_at.Goals as goal
+use Rattle.java_letters.proofs.letters.escape_at.Goals.{then-loop-marks-test+else-bytes-marks-eq117, else-loop-marks-test}
 
 pub loop-marks-preserved : goal.loop-marks-preserved
 loop-marks-preserved c =

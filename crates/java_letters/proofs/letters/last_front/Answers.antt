@@ -1,7 +1,7 @@
 use Rattle.std.proofs.Common.{sym, ◌∙◌, ap}
-use Rattle.java_lexer.specs.Letters.{stop, raw_at}
-use Rattle.java_lexer.proofs.Steps.{final_step, inner_step}
-use Rattle.java_lexer.proofs.letters.last_front.Goals as goal
+use Rattle.java_letters.specs.Letters.{stop, raw_at}
+use Rattle.java_letters.proofs.Steps.{final_step, inner_step}
+use Rattle.java_letters.proofs.letters.last_front.Goals as goal
 
 pub returns-in-Stop-clause-value : goal.returns-in-Stop-clause-value
 returns-in-Stop-clause-value c =

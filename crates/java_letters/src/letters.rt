@@ -2,8 +2,8 @@
 
 ghost use Rattle.std.specs.Prelude.{◌≡◌, ◌≢◌, ◌+◌, ◌-◌, ◌*◌, ◌^◌, ◌<◌, ◌≤◌, length, drop, slice_index, IsTrue, ◌&&◌};
 ghost use Rattle.std.specs.Char.{digit_value};
-ghost use Rattle.java_lexer.specs.declared.letters.Front.TheVariants.{Letter};
-ghost use Rattle.java_lexer.specs.Letters.{is_tail, is_second, is_two, is_three, is_four, character_of, character_front, are_digits, four_digits, digits_at, escape_at, begins_escape, is_high, is_low, joined, next_escape, paired, some_front, raw_front, past_plain, past_escape, raw_at, end_without, letters, raw_seen, seen, IsAt, GoesOn, Takes, IsUnit};
+ghost use Rattle.java_letters.specs.declared.letters.Front.TheVariants.{Letter};
+ghost use Rattle.java_letters.specs.Letters.{is_tail, is_second, is_two, is_three, is_four, character_of, character_front, are_digits, four_digits, digits_at, escape_at, begins_escape, is_high, is_low, joined, next_escape, paired, some_front, raw_front, past_plain, past_escape, raw_at, end_without, letters, raw_seen, seen, start, IsAt, GoesOn, Takes, IsUnit};
 
 use java_tree::Position;
 
@@ -411,5 +411,20 @@ pub fn front_at(bytes: &[u8], at: Cursor) -> Front
                 Front::Letter(code, next)
             }
         }
+    }
+}
+
+/// The place where a file begins.
+pub fn start() -> Cursor
+    ensures { result ≡ start }
+{
+    Cursor {
+        position: Position {
+            offset: 0,
+            line: 1,
+            column: 1,
+        },
+        after_return: false,
+        odd: false,
     }
 }

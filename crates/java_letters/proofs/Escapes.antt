@@ -2,7 +2,7 @@
 use Rattle.std.proofs.Common.{◌≡◌, ℕ, ◌+◌, ◌<◌, ◌≤◌, List, ◌∷◌, length, drop, get_or, eqb, cond, sym, ◌∙◌, ap, arith}
 use Rattle.std.proofs.lemmas.List.{at_drop_more, at_drop_all}
 use Rattle.std.proofs.lemmas.Bool.{ne_eqb}
-use Rattle.java_lexer.specs.Letters.{digits_at, escape_at}
+use Rattle.java_letters.specs.Letters.{digits_at, escape_at}
 
 mark_step : (n b : ℕ) (bs : List ℕ) → b ≡ 117 → escape_at n (b ∷ bs) ≡ escape_at (n + 1) bs
 mark_step n b bs e = ap (λ t. cond t (escape_at (n + 1) bs) (digits_at n (b ∷ bs))) (ap (λ x. eqb x 117) e)

@@ -1,7 +1,7 @@
 use Rattle.std.proofs.Common.{◌≡◌, ◌-◌}
-use Rattle.java_lexer.specs.Letters.{letters, IsFrom}
-use Rattle.java_lexer.specs.Scans.{drop_letters}
-use Rattle.java_lexer.proofs.scans.skip.Given as goal
+use Rattle.java_letters.specs.Letters.{letters, IsFrom}
+use Rattle.java_letters.specs.Scans.{drop_letters}
+use Rattle.java_letters.proofs.scans.skip.Given as goal
 
 abbrev pub invariant-loop : goal.invariant-loop
 invariant-loop l = record {

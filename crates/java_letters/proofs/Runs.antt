@@ -1,9 +1,9 @@
 -- How the loop over a number of letters goes on.
 use Rattle.std.proofs.Common.{◌≡◌, ℕ, zero, suc, ◌+◌, ◌-◌, ◌<◌, refl, sym, ◌∙◌, ap, arith}
 use Rattle.java_tree.specs.declared.tokens.Position.{Position}
-use Rattle.java_lexer.specs.declared.letters.Ending.{Ending}
-use Rattle.java_lexer.specs.Letters.{Letters, letter, stop}
-use Rattle.java_lexer.specs.Scans.{tail, drop_letters}
+use Rattle.java_letters.specs.declared.letters.Ending.{Ending}
+use Rattle.java_letters.specs.Letters.{Letters, letter, stop}
+use Rattle.java_letters.specs.Scans.{tail, drop_letters}
 
 drop_stop : (k : ℕ) (e : Ending) (q : Position) → drop_letters k (stop e q) ≡ stop e q
 drop_stop zero e q = refl

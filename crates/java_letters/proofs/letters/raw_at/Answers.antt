@@ -1,8 +1,8 @@
 use Rattle.std.proofs.Common.{sym, ◌∙◌, ap}
-use Rattle.java_lexer.specs.declared.letters.RawFront.TheVariants.{Stop, Plain, Escaped}
-use Rattle.java_lexer.specs.Letters.{letter, raw_at}
-use Rattle.java_lexer.proofs.Steps.{raw_step}
-use Rattle.java_lexer.proofs.letters.raw_at.Goals as goal
+use Rattle.java_letters.specs.declared.letters.RawFront.TheVariants.{Stop, Plain, Escaped}
+use Rattle.java_letters.specs.Letters.{letter, raw_at}
+use Rattle.java_letters.proofs.Steps.{raw_step}
+use Rattle.java_letters.proofs.letters.raw_at.Goals as goal
 
 pub returns-in-Stop-clause-value : goal.returns-in-Stop-clause-value
 returns-in-Stop-clause-value c = raw_step c.args.bytes.now c.args.at (Stop c.in-Stop.ending) c.in-Stop.ensures.value c.in-Stop.ensures.takes

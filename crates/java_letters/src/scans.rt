@@ -1,8 +1,8 @@
 // How a text goes on.
 
 ghost use Rattle.std.specs.Prelude.{◌≡◌};
-ghost use Rattle.java_lexer.specs.Letters.{letters, IsAt, IsFrom};
-ghost use Rattle.java_lexer.specs.Scans.{head, tail, place_of, drop_letters};
+ghost use Rattle.java_letters.specs.Letters.{letters, IsAt, IsFrom};
+ghost use Rattle.java_letters.specs.Scans.{head, tail, place_of, drop_letters};
 
 use crate::letters::{Cursor, Front, front_at};
 use java_tree::Position;

@@ -4,13 +4,13 @@ use Rattle.std.specs.Int.{is_in_range}
 use Rattle.std.specs.Char.{digit_value}
 use Rattle.std.specs.Str.Lossy.{second_byte_min, second_byte_max}
 use Rattle.java_tree.specs.declared.tokens.Position.{Position}
-use Rattle.java_lexer.specs.declared.letters.Cursor.{Cursor}
-use Rattle.java_lexer.specs.declared.letters.Ending.{Ending}
-use Rattle.java_lexer.specs.declared.letters.Ending.TheVariants.{File, Byte, Escape}
-use Rattle.java_lexer.specs.declared.letters.RawFront.{RawFront}
-use Rattle.java_lexer.specs.declared.letters.RawFront.TheVariants as raw
-use Rattle.java_lexer.specs.declared.letters.Front as front
-use Rattle.java_lexer.specs.declared.letters.Front.TheVariants.{Stop, Letter}
+use Rattle.java_letters.specs.declared.letters.Cursor.{Cursor}
+use Rattle.java_letters.specs.declared.letters.Ending.{Ending}
+use Rattle.java_letters.specs.declared.letters.Ending.TheVariants.{File, Byte, Escape}
+use Rattle.java_letters.specs.declared.letters.RawFront.{RawFront}
+use Rattle.java_letters.specs.declared.letters.RawFront.TheVariants as raw
+use Rattle.java_letters.specs.declared.letters.Front as front
+use Rattle.java_letters.specs.declared.letters.Front.TheVariants.{Stop, Letter}
 
 -- Letters, each with its place, up to where they end and why (own rule).
 pub data Letters : Type 0 where
