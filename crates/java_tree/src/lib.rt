@@ -3,9 +3,7 @@
 
 mod tokens;
 
-pub use tokens::{
-    Comment, Comments, JToken, JTokens, Keyword, Mark, Position, TokenKind, Tokens,
-};
+pub use tokens::{Comment, Comments, JToken, JTokens, Keyword, Mark, Position, TokenKind, Tokens};
 
 #[cfg(test)]
 mod tests;
