@@ -2,6 +2,7 @@
 //! over its bytes.
 #![tactic(auto)]
 
+pub mod laws;
 mod letters;
 mod scans;
 

@@ -1,0 +1,11 @@
+//! Laws of the definitions: each holds of all bytes.
+
+ghost use Rattle.std.specs.Prelude.{◌≡◌, ℕ, ◌++◌, List, length, encode_utf8};
+ghost use Rattle.std.specs.Char.{IsScalar};
+ghost use Rattle.java_letters.specs.declared.letters.RawFront.TheVariants.{Plain};
+ghost use Rattle.java_letters.specs.Letters.{character_front};
+
+/// A character's bytes are read as that character, whatever follows them.
+pub fn decodes()
+    ensures { (c : ℕ) (rest : List ℕ) → IsScalar c → character_front (encode_utf8 c ++ rest) ≡ Plain c (length (encode_utf8 c)) }
+{}
