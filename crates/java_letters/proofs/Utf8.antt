@@ -222,7 +222,7 @@ back_three a b d c h i low high j k e =
     let b2 : b ≤ 191 = m.0 in
     let b3 : (160 ≤ b) ⊎ (225 ≤ a) = elim (eqb_tells a 224) [ inl t ↦ inl (l.1 t.1) | inr t ↦ inr (omega (arith, t.1)) ] in
     let b4 : (b ≤ 159) ⊎ ((a ≤ 236) ⊎ (238 ≤ a)) =
-        elim (eqb_tells a 237) [ inl t ↦ inl (m.1 t.1) | inr t ↦ elim (cases_lt a 237) [ inl u ↦ inr (inl (omega (arith, u))) | inr u ↦ inr (inr (omega (arith, u, t.1))) ] ] in
+    elim (eqb_tells a 237) [ inl t ↦ inl (m.1 t.1) | inr t ↦ elim (cases_lt a 237) [ inl u ↦ inr (inl (omega (arith, u))) | inr u ↦ inr (inr (omega (arith, u, t.1))) ] ] in
     let least_value : 2048 ≤ c = elim b3 [ inl t ↦ omega (arith, t) | inr t ↦ omega (arith, t) ] in
     let x : a ≡ 224 + c / 4096 = omega arith in
     let y : b ≡ 128 + c / 64 % 64 = omega arith in
@@ -233,7 +233,7 @@ back_three a b d c h i low high j k e =
         | inr t ↦ elim t [ inl u ↦ low_scalar c (omega (arith, u)) | inr u ↦ high_scalar c (omega (arith, u)) (omega arith) ]
       ];
       bytes = ap (λ v. v ∷ b ∷ d ∷ []) x ∙ (ap (λ v. (224 + c / 4096) ∷ v ∷ d ∷ []) y ∙ (ap (λ v. (224 + c / 4096) ∷ (128 + c / 64 % 64) ∷ v ∷ []) z
-      ∙ sym (encode_three c least_value (omega arith))));
+          ∙ sym (encode_three c least_value (omega arith))));
     }
 
 back_four : (a b d f c : ℕ) → 240 ≤ a → a ≤ 244 → second_byte_min a ≤ b → b ≤ second_byte_max a → 128 ≤ d → d ≤ 191 → 128 ≤ f → f ≤ 191 →
@@ -254,7 +254,7 @@ back_four a b d f c h i low high j k n o e =
     record {
       scalar = high_scalar c (omega arith) most_value;
       bytes = ap (λ v. v ∷ b ∷ d ∷ f ∷ []) x ∙ (ap (λ v. (240 + c / 262144) ∷ v ∷ d ∷ f ∷ []) y ∙ (ap (λ v. (240 + c / 262144) ∷ (128 + c / 4096 % 64) ∷ v ∷ f ∷ []) z
-      ∙ (ap (λ v. (240 + c / 262144) ∷ (128 + c / 4096 % 64) ∷ (128 + c / 64 % 64) ∷ v ∷ []) w ∙ sym (encode_four c least_value))));
+          ∙ (ap (λ v. (240 + c / 262144) ∷ (128 + c / 4096 % 64) ∷ (128 + c / 64 % 64) ∷ v ∷ []) w ∙ sym (encode_four c least_value))));
     }
 
 two_bytes : (a : ℕ) (bs : List ℕ) → 128 ≤ slice_index bs 0 → take 2 (a ∷ bs) ≡ a ∷ slice_index bs 0 ∷ []

@@ -15,7 +15,7 @@ number_of Form = 4
 number_of Large = 5
 number_of Outside = 6
 
--- a fault of the file of a path
+-- a fault of the file of a path (own rule)
 abbrev pub fault_in : List ℕ → LexFault → faults.Fault
 fault_in path f = record {
   phase = L;

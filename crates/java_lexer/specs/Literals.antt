@@ -14,6 +14,7 @@ use Rattle.java_lexer.specs.Found.{Cut, fault, token}
 abbrev pub is_line_end : ℕ → Bool
 is_line_end c = (c == 10) || (c == 13)
 
+-- an octal digit (JLS 3.10.1)
 abbrev pub is_octal : ℕ → Bool
 is_octal c = is_in_range 48 55 c
 
@@ -35,10 +36,11 @@ simple_of c =
     else if (c == 34) || ((c == 39) || (c == 92)) then Some (c, 1)
     else None
 
--- the unit of the escape whose text behind the backslash this is, and how many letters that takes
+-- the unit of the escape whose text behind the backslash this is, and how many letters that takes (JLS 3.10.6)
 unfoldable pub escape_of : Letters → Option (ℕ × ℕ)
 escape_of t = if is_octal (head t) then octal_of (head t) (head (tail t)) (head (tail (tail t))) else simple_of (head t)
 
+-- the unit of an escape (JLS 3.10.6)
 abbrev pub escaped : Option (ℕ × ℕ) → Quoted
 escaped None = BadEscape
 escaped (Some e) = One e.0 e.1
@@ -55,6 +57,7 @@ meaning_of c rest =
     else if c == 92 then escaped (escape_of rest)
     else units_of c
 
+-- a String literal, by what its next letter means (JLS 3.10.5)
 abbrev pub string_turn : Position → List ℕ → Quoted → Letters → Letters → (ℕ → List ℕ → Cut) → Cut
 string_turn p units Close t rest more = token (Text units) p rest
 string_turn p units Bad t rest more = fault Form p t
@@ -69,7 +72,7 @@ string_at p (suc n) units (stop e q) = fault Form p (stop e q)
 string_at p zero units (letter c q rest) = string_turn p units (meaning_of c rest) (letter c q rest) rest (λ n us. string_at p n us rest)
 string_at p (suc n) units (letter c q rest) = string_at p n units rest
 
--- a String literal behind its opening mark
+-- a String literal behind its opening mark (JLS 3.10.5)
 unfoldable pub string_piece : Position → Letters → Cut
 string_piece p t = string_at p 0 [] t
 
@@ -81,6 +84,7 @@ closed p u t = if head t == 39 then token (Character u) p (tail t) else fault Fo
 abbrev pub is_single : ℕ → Bool
 is_single c = not (c == 39) && (not (is_line_end c) && nat_lt c 0x1_0000)
 
+-- a character literal behind its escape (JLS 3.10.4)
 abbrev pub escaped_piece : Position → Option (ℕ × ℕ) → Letters → Cut
 escaped_piece p None t = fault Form p t
 escaped_piece p (Some e) t = closed p e.0 (drop_letters e.1 t)

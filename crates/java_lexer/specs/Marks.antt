@@ -5,17 +5,19 @@ use Rattle.java_tree.specs.declared.tokens.Mark.TheVariants as marks
 use Rattle.java_lexer.specs.declared.marks.MarkKind.{MarkKind}
 use Rattle.java_lexer.specs.declared.marks.MarkKind.TheVariants.{Nothing, Outside, Mark}
 
--- a mark with `c` behind its first character, or else one of that alone
+-- a mark with `c` behind its first character, or else one of that alone (JLS 3.11, 3.12)
 abbrev pub either : ℕ → ℕ → mark → mark → MarkKind
 either d c long short = if d == c then Mark long 1 else Mark short 0
 
--- a mark that stands alone, doubled, or with `=` behind it
+-- a mark that stands alone, doubled, or with `=` behind it (JLS 3.11, 3.12)
 abbrev pub doubled : ℕ → ℕ → mark → mark → mark → MarkKind
 doubled d c double assign single = if d == c then Mark double 1 else either d 61 assign single
 
+-- `-`, `--`, `-=` or `->` (JLS 3.12)
 abbrev pub minus : ℕ → MarkKind
 minus d = if d == 62 then Mark marks.Arrow 1 else doubled d 45 marks.MinusMinus marks.MinusAssign marks.Minus
 
+-- `<`, `<=`, `<<` or `<<=` (JLS 3.12)
 abbrev pub less : ℕ → ℕ → MarkKind
 less d e =
     if (d == 60) && (e == 61) then Mark marks.ShiftLeftAssign 2
@@ -34,6 +36,7 @@ colon d = if d == 58 then Outside 1 else Mark marks.Colon 0
 abbrev pub dot : ℕ → ℕ → MarkKind
 dot d e = if (d == 46) && (e == 46) then Outside 2 else Mark marks.Dot 0
 
+-- a mark of one character that begins no other (JLS 3.11, 3.12)
 abbrev pub single : ℕ → MarkKind
 single c =
     if c == 40 then Mark marks.OpenRound 0
@@ -49,7 +52,7 @@ single c =
     else if c == 64 then Mark marks.At 0
     else Nothing
 
--- The mark that begins with c, where d and e follow, and how many more characters it takes.
+-- The mark that begins with c, where d and e follow, and how many more characters it takes (JLS 3.11, 3.12).
 unfoldable pub mark_of : ℕ → ℕ → ℕ → MarkKind
 mark_of c d e =
     if c == 46 then dot d e

@@ -20,19 +20,21 @@ is_start c = scalar c && ((c == 36) || ((c == 95) || is_xid_start c))
 unfoldable pub is_continue : ℕ → Bool
 is_continue c = scalar c && ((c == 36) || is_xid_continue c)
 
--- the bytes of the rest of a word at the front of a text
+-- the bytes of the rest of a word at the front of a text (JLS 3.8)
 abbrev pub name_of : Letters → List ℕ
 name_of (letter c p rest) = if is_continue c then encode_utf8 c ++ name_of rest else []
 name_of (stop e q) = []
 
--- a `$` stood in the word, or stands in its rest at the front of a text
+-- a `$` stood in the word, or stands in its rest at the front of a text (JLS 3.8)
 abbrev pub dollar_in : Bool → Letters → Bool
 dollar_in dollar (letter c p rest) = if is_continue c then dollar_in (dollar || (c == 36)) rest else dollar
 dollar_in dollar (stop e q) = dollar
 
+-- the text behind the rest of a word (JLS 3.8)
 abbrev pub word_rest : Letters → Letters
 word_rest t = drop_while is_continue t
 
+-- the token of a word (JLS 3.8, 3.9)
 abbrev pub named : Position → WordKind → List ℕ → Letters → Cut
 named p (Keyword k) name t = token (kinds.Keyword k) p t
 named p Outside name t = fault codes.Outside p t
