@@ -1,0 +1,14 @@
+use Rattle.std.proofs.Common.{◌∙◌, arith}
+use Rattle.java_letters.specs.Letters.{letters}
+use Rattle.java_lexer.proofs.Strings.{one_more}
+use Rattle.java_lexer.proofs.literals.string_piece.Goals as goal
+
+pub letters-preserved-in-One : goal.letters-preserved-in-One
+letters-preserved-in-One c = record {
+  value =
+      one_more c.args.position c.letters.units c.push.new.self (letters c.args.bytes.now c.letters.next) c.in-Letter.code c.letters.next.position
+      (letters c.args.bytes.now c.in-Letter.after) (letters c.args.bytes.now c.skip-next.result) c.in-One.unit c.in-One.more
+      c.in-Letter.ensures.value c.in-One.ensures c.skip-next.ensures.rest c.in_ok-push-in-One.ensures.ok
+      ∙ c.letters.invariant.value;
+  next = (c.skip-next.ensures.next.0, omega (arith, c.skip-next.ensures.next.1, c.in-Letter.ensures.goes_on.1));
+}

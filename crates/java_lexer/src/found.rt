@@ -1,0 +1,66 @@
+// What a text begins with.
+
+ghost use Rattle.std.specs.Prelude.{◌≡◌};
+
+use java_letters::Cursor;
+use java_tree::{Comment, JToken, Position, TokenKind};
+
+/// Why no case applies.
+#[derive(Clone, Copy, Debug, PartialEq, Eq)]
+pub enum Code {
+    /// L1: a byte that is no UTF-8.
+    Utf8,
+    /// L2: an eligible `\u` without four hexadecimal digits.
+    Escape,
+    /// L3: a character that begins no token.
+    Character,
+    /// L4: a comment or literal that isn't closed or isn't formed.
+    Form,
+    /// L5: an integer literal that is too large.
+    Large,
+    /// L6: a word, mark, literal or identifier outside the profile.
+    Outside,
+}
+
+/// The first place where no case applies, and why.
+#[derive(Clone, Copy, Debug)]
+pub struct LexFault {
+    pub code: Code,
+    pub position: Position,
+}
+
+/// What a text begins with.
+#[derive(Debug, Drop)]
+pub enum Piece {
+    /// Nothing: the text ends.
+    End,
+    Fault(LexFault),
+    White,
+    Comment(Comment),
+    Token(JToken),
+}
+
+/// A piece, and the place behind it.
+#[derive(Debug, Drop)]
+pub struct Found {
+    pub piece: Piece,
+    pub next: Cursor,
+}
+
+pub fn fault(code: Code, position: Position, next: Cursor) -> Found
+    ensures { result ≡ record { piece = Piece.Fault (record { code = code; position = position }); next = next } }
+{
+    Found {
+        piece: Piece::Fault(LexFault { code, position }),
+        next,
+    }
+}
+
+pub fn token(kind: TokenKind, position: Position, next: Cursor) -> Found
+    ensures { result ≡ record { piece = Piece.Token (record { kind = kind; position = position }); next = next } }
+{
+    Found {
+        piece: Piece::Token(JToken { kind, position }),
+        next,
+    }
+}
