@@ -1,1 +1,3 @@
 pub mod Spellings
+pub mod Seen
+pub mod Trees
