@@ -8,3 +8,6 @@ mod writing;
 pub use laws::one_tree;
 pub use suffix::Suffix;
 pub use writing::spell;
+
+#[cfg(test)]
+mod tests;
