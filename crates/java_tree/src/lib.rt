@@ -1,9 +1,13 @@
-//! Java tokens and comments, with their places.
+//! Java tokens and comments, with their places, and trees of expressions and types.
 #![tactic(auto)]
 
+mod exprs;
 mod tokens;
+mod types;
 
+pub use exprs::{AssignOp, BinaryOp, JExpr, JLiteral, JParam, JParams, PostfixOp, PrefixOp};
 pub use tokens::{Comment, Comments, JToken, JTokens, Keyword, Mark, Position, TokenKind, Tokens};
+pub use types::{JType, Primitive};
 
 #[cfg(test)]
 mod tests;

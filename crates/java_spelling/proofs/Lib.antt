@@ -1,0 +1,12 @@
+pub mod Seen
+pub mod Tools
+pub mod Lists
+pub mod TypeLaws
+pub mod Trees
+pub mod First
+pub mod Sound
+pub mod Again
+pub mod Theorem
+pub mod Parts
+pub mod ExprParts
+pub mod SpellParts
