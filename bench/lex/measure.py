@@ -1,0 +1,58 @@
+#!/usr/bin/env python3
+"""Times the lexer and javac side by side on the same files, with their peak memory: measure.py FOLDER [BYTES ..].
+
+Run it at the top. A workspace with the crates and the program lexed.rt is made in FOLDER, outside the checkout, and is proved and
+built there, which takes some minutes. It wants the command /usr/bin/time; javac is left out where it is missing.
+"""
+import glob
+import os
+import shutil
+import subprocess
+import sys
+import time
+
+
+def run(words, folder):
+    """The seconds, the peak memory in MB and the status of one run, by the command time."""
+    started = time.monotonic()
+    timed = subprocess.run(["/usr/bin/time", "-q", "-f", "%M"] + words, cwd=folder, capture_output=True, text=True)
+    seconds = time.monotonic() - started
+    kilobytes = timed.stderr.split("\n")[-2]
+    return seconds, int(kilobytes) / 1024, timed.returncode
+
+
+def built(top, folder):
+    """The program in a workspace of its own."""
+    place = os.path.join(folder, "crates/lexed")
+    program = os.path.join(place, "out/lexed")
+    if not os.path.exists(program):
+        os.makedirs(os.path.join(place, "src"))
+        shutil.copy(os.path.join(top, "HANDLES"), folder)
+        shutil.copy(os.path.join(top, "bench/lex/lexed.rt"), os.path.join(place, "src/main.rt"))
+        lines = ["lexed: java_lexer java_tree j2k_base anyhow\n"]
+        for line in open(os.path.join(top, "crates.txt")):
+            name = line.split(":")[0]
+            if name in ("j2k_base", "java_tree", "java_letters", "java_lexer"):
+                lines.append(line)
+                shutil.copytree(os.path.join(top, "crates", name), os.path.join(folder, "crates", name))
+        with open(os.path.join(folder, "crates.txt"), "w") as file:
+            file.writelines(lines)
+        subprocess.run(["rt", "run"], cwd=place, capture_output=True)
+    return program
+
+
+def main():
+    top, folder = os.getcwd(), os.path.abspath(sys.argv[1])
+    program = built(top, folder)
+    for size in sys.argv[2:] or ["1048576", "16777216"]:
+        java = os.path.join(folder, "java" + size)
+        subprocess.run([sys.executable, os.path.join(top, "bench/lex/generate.py"), java, size], check=True)
+        files = sorted(glob.glob(java + "/*.java"))
+        best = min(run([program] + files, folder) for _ in range(9))
+        print(f"{sum(map(os.path.getsize, files))} bytes, lex: {best[0]:.3f} s, {best[1]:.1f} MB, status {best[2]}")
+        if shutil.which("javac"):
+            best = min(run(["javac", "-proc:none", "-d", "classes"] + files, folder) for _ in range(2))
+            print(f"{size} bytes, javac: {best[0]:.3f} s, {best[1]:.1f} MB, status {best[2]}")
+
+
+main()
