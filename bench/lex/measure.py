@@ -1,7 +1,7 @@
 #!/usr/bin/env python3
 """Times the lexer and javac side by side on the same files, with their peak memory: measure.py FOLDER [BYTES ..].
 
-Run it at the top. A workspace with the crates and the program lexed.rt is made in FOLDER, outside the checkout, and is proved and
+Run it at the top. A workspace with the crates and the program of program.txt is made in FOLDER, outside the checkout, and is proved and
 built there, which takes some minutes. It wants the command /usr/bin/time; javac is left out where it is missing.
 """
 import glob
@@ -28,7 +28,7 @@ def built(top, folder):
     if not os.path.exists(program):
         os.makedirs(os.path.join(place, "src"))
         shutil.copy(os.path.join(top, "HANDLES"), folder)
-        shutil.copy(os.path.join(top, "bench/lex/lexed.rt"), os.path.join(place, "src/main.rt"))
+        shutil.copy(os.path.join(top, "bench/lex/program.txt"), os.path.join(place, "src/main.rt"))
         lines = ["lexed: java_lexer java_tree j2k_base anyhow\n"]
         for line in open(os.path.join(top, "crates.txt")):
             name = line.split(":")[0]
