@@ -9,16 +9,9 @@ import os
 import shutil
 import subprocess
 import sys
-import time
 
-
-def run(words, folder):
-    """The seconds, the peak memory in MB and the status of one run, by the command time."""
-    started = time.monotonic()
-    timed = subprocess.run(["/usr/bin/time", "-q", "-f", "%M"] + words, cwd=folder, capture_output=True, text=True)
-    seconds = time.monotonic() - started
-    kilobytes = timed.stderr.split("\n")[-2]
-    return seconds, int(kilobytes) / 1024, timed.returncode
+sys.path.insert(0, os.path.join(os.path.dirname(os.path.abspath(__file__)), ".."))
+from timing import run
 
 
 def built(top, folder):
