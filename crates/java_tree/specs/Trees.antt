@@ -1,5 +1,5 @@
 -- Which tokens a tree spells, and which trees stand: each operand at its level, at a depth.
-use Rattle.std.specs.Prelude.{◌≡◌, ℕ, zero, suc, ◌+◌, ◌≤◌, max, Bool, true, false, not, List, [], ◌∷◌, ◌++◌, length, map}
+use Rattle.std.specs.Prelude.{◌≡◌, ℕ, zero, suc, ◌+◌, ◌≤◌, max, Bool, true, false, not, List, [], ◌∷◌, ◌++◌, length, map, Option, Some, None}
 use Rattle.std.specs.List.{AllByRecursion}
 use Rattle.java_tree.specs.declared.tokens.Position.{Position}
 use Rattle.java_tree.specs.declared.tokens.Mark.{Mark}
@@ -17,9 +17,18 @@ use Rattle.java_tree.specs.declared.exprs.BinaryOp.{BinaryOp}
 use Rattle.java_tree.specs.declared.exprs.BinaryOp.TheVariants as op
 use Rattle.java_tree.specs.declared.exprs.AssignOp.{AssignOp}
 use Rattle.java_tree.specs.declared.exprs.AssignOp.TheVariants as assign
+use Rattle.java_tree.specs.declared.exprs.Span.{Span}
+use Rattle.java_tree.specs.declared.exprs.JLiteral.{JLiteral}
+use Rattle.java_tree.specs.declared.exprs.JLiteral.TheVariants as literal
+use Rattle.java_tree.specs.declared.exprs.JCreated.{JCreated}
+use Rattle.java_tree.specs.declared.exprs.JCreated.TheVariants as created
+use Rattle.java_tree.specs.declared.exprs.JTypedParam.{JTypedParam}
 use Rattle.java_tree.specs.declared.exprs.JParam.{JParam}
 use Rattle.java_tree.specs.declared.exprs.JParams.{JParams}
 use Rattle.java_tree.specs.declared.exprs.JParams.TheVariants as params
+use Rattle.java_tree.specs.declared.types.JDotted.{JDotted}
+use Rattle.java_tree.specs.declared.types.JQualified.{JQualified}
+use Rattle.java_tree.specs.declared.types.JBrackets.{JBrackets}
 use Rattle.java_tree.specs.declared.types.JType.{JType, out-JType, fold-JType}
 use Rattle.java_tree.specs.declared.types.JType.TheOpen.{JType-F}
 use Rattle.java_tree.specs.declared.exprs.JExpr.{JExpr, out-JExpr, fold-JExpr}
@@ -60,30 +69,34 @@ abbrev pub closing : Bool → Mark
 closing true = m.GreaterJoined
 closing false = m.Greater
 
+abbrev pub dotted_tokens : List JDotted → Tokens
+dotted_tokens [] = []
+dotted_tokens (x ∷ xs) = Token.Sign m.Dot x.dot ∷ Token.Id x.name x.at ∷ dotted_tokens xs
+
+abbrev pub qualified_tokens : JQualified → Tokens
+qualified_tokens q = Token.Id q.name q.at ∷ dotted_tokens q.rest
+
+abbrev pub brackets_tokens : List JBrackets → Tokens
+brackets_tokens [] = []
+brackets_tokens (x ∷ xs) = Token.Sign m.OpenSquare x.opens ∷ Token.Sign m.CloseSquare x.closes ∷ brackets_tokens xs
+
 abbrev pub type_tokens_by : JType-F Tokens → Tokens
 type_tokens_by (JType-F.Primitive p at) = Token.Word (primitive_word p) at ∷ []
-type_tokens_by (JType-F.Class n at) = Token.Id n at ∷ []
-type_tokens_by (JType-F.Applied n at lp args commas is_joined close) =
-    Token.Id n at ∷ Token.Sign m.Less lp ∷ (listed commas args ++ Token.Sign (closing is_joined) close ∷ [])
+type_tokens_by (JType-F.Class q) = qualified_tokens q
+type_tokens_by (JType-F.Applied q lp args commas is_joined close) =
+    qualified_tokens q ++ Token.Sign m.Less lp ∷ (listed commas args ++ Token.Sign (closing is_joined) close ∷ [])
+type_tokens_by (JType-F.Array element brackets) = element ++ brackets_tokens brackets
 
 unfoldable pub type_tokens : JType → Tokens
 type_tokens = fold-JType Tokens type_tokens_by
 
 abbrev pub type_depth_by : JType-F ℕ → ℕ
-type_depth_by (JType-F.Applied n at lp args commas is_joined close) = suc (deepest args)
+type_depth_by (JType-F.Applied q lp args commas is_joined close) = suc (deepest args)
+type_depth_by (JType-F.Array element brackets) = suc element
 type_depth_by _ = 1
 
 unfoldable pub type_depth : JType → ℕ
 type_depth = fold-JType ℕ type_depth_by
-
-abbrev pub type_stands_by : (JType → Type 0) → JType-F JType → Type 0
-type_stands_by P (JType-F.Applied n at lp args commas is_joined close) = (1 ≤ length args) × AreBetween commas args × AllByRecursion P args
-type_stands_by P _ = Unit {0}
-
--- at a depth of at most the number
-unfoldable pub TypeStands : ℕ → JType → Type 0
-TypeStands zero x = ⊥
-TypeStands (suc d) x = type_stands_by (TypeStands d) (out-JType x)
 
 abbrev pub is_primitive_by : JType-F JType → Bool
 is_primitive_by (JType-F.Primitive p at) = true
@@ -91,6 +104,31 @@ is_primitive_by _ = false
 
 abbrev pub is_primitive : JType → Bool
 is_primitive x = is_primitive_by (out-JType x)
+
+abbrev pub is_array_by : JType-F JType → Bool
+is_array_by (JType-F.Array element brackets) = true
+is_array_by _ = false
+
+abbrev pub is_array : JType → Bool
+is_array x = is_array_by (out-JType x)
+
+abbrev pub is_class_by : JType-F JType → Bool
+is_class_by (JType-F.Class q) = true
+is_class_by (JType-F.Applied q lp args commas is_joined close) = true
+is_class_by _ = false
+
+abbrev pub is_class : JType → Bool
+is_class x = is_class_by (out-JType x)
+
+abbrev pub type_stands_by : (JType → Type 0) → JType-F JType → Type 0
+type_stands_by P (JType-F.Applied q lp args commas is_joined close) = (1 ≤ length args) × AreBetween commas args × AllByRecursion P args
+type_stands_by P (JType-F.Array element brackets) = (1 ≤ length brackets) × (is_array element ≡ false) × P element
+type_stands_by P _ = Unit {0}
+
+-- at a depth of at most the number
+unfoldable pub TypeStands : ℕ → JType → Type 0
+TypeStands zero x = ⊥
+TypeStands (suc d) x = type_stands_by (TypeStands d) (out-JType x)
 
 -- ---- operators
 
@@ -143,6 +181,10 @@ assign_tokens assign.BitXor at = Token.Sign m.HatAssign at ∷ []
 
 -- ---- levels. A place of the grammar takes the forms of its level and above.
 
+-- of the values in braces
+abbrev pub init_level : ℕ
+init_level = 0
+
 abbrev pub any_level : ℕ
 any_level = 1
 
@@ -192,11 +234,14 @@ primary_level = 16
 
 abbrev pub top_by : JExpr-F JExpr → ℕ
 top_by (JExpr-F.Assign left op at right) = any_level
+top_by (JExpr-F.Braces lc inits commas more rc) = init_level
 top_by (JExpr-F.Lambda params arrow body) = else_level
+top_by (JExpr-F.LambdaBlock params arrow body) = else_level
 top_by (JExpr-F.Conditional left question then_ colon else_) = cond_level
 top_by (JExpr-F.Binary left op at right) = level op
 top_by (JExpr-F.Instanceof left at to) = relation_level
 top_by (JExpr-F.Prefix op at inner) = unary_level
+top_by (JExpr-F.MinusLeast minus literal at) = unary_level
 top_by (JExpr-F.Cast lp to rp inner) = unary_level
 top_by (JExpr-F.Postfix left op at) = postfix_level
 top_by _ = primary_level
@@ -223,6 +268,14 @@ is_test_by _ = false
 unfoldable pub is_test : JExpr → Bool
 is_test e = is_test_by (out-JExpr e)
 
+abbrev pub is_sized_by : JExpr-F JExpr → Bool
+is_sized_by (JExpr-F.NewArray at of lb size rb more) = true
+is_sized_by _ = false
+
+-- whether it is an array that is created with a size, behind which no `[` begins an element
+unfoldable pub is_sized : JExpr → Bool
+is_sized e = is_sized_by (out-JExpr e)
+
 -- A `<` behind an `instanceof` begins the arguments of its type.
 abbrev pub may_compare : BinaryOp → Bool → Bool
 may_compare op.Less is_test = not is_test
@@ -233,9 +286,33 @@ may_compare _ is_test = true
 abbrev pub param_tokens : JParam → Tokens
 param_tokens p = Token.Id p.name p.at ∷ []
 
+abbrev pub final_tokens : Option Position → Tokens
+final_tokens None = []
+final_tokens (Some at) = Token.Word w.Final at ∷ []
+
+abbrev pub typed_tokens : JTypedParam → Tokens
+typed_tokens p = final_tokens p.is_final ++ (type_tokens p.kind ++ Token.Id p.name p.at ∷ [])
+
 abbrev pub params_tokens : JParams → Tokens
 params_tokens (params.One p) = param_tokens p
 params_tokens (params.Several lp ps commas rp) = Token.Sign m.OpenRound lp ∷ (listed commas (map param_tokens ps) ++ Token.Sign m.CloseRound rp ∷ [])
+params_tokens (params.Typed lp ps commas rp) = Token.Sign m.OpenRound lp ∷ (listed commas (map typed_tokens ps) ++ Token.Sign m.CloseRound rp ∷ [])
+
+abbrev pub created_tokens : JCreated → Tokens
+created_tokens (created.Type x) = type_tokens x
+created_tokens (created.Inferred q lp is_joined close) = qualified_tokens q ++ Token.Sign m.Less lp ∷ Token.Sign (closing is_joined) close ∷ []
+
+-- the `)` behind arguments, with the body of an anonymous class where there is one
+abbrev pub args_close : Position → Option Span → Token
+args_close rp None = Token.Sign m.CloseRound rp
+args_close rp (Some body) = Token.CloseBody rp body
+
+abbrev pub trailing : Option Position → Tokens
+trailing None = []
+trailing (Some at) = Token.Sign m.Comma at ∷ []
+
+abbrev pub braces_tokens : Position → List Tokens → List Position → Option Position → Position → Tokens
+braces_tokens lc inits commas more rc = Token.Sign m.OpenCurly lc ∷ (listed commas inits ++ (trailing more ++ Token.Sign m.CloseCurly rc ∷ []))
 
 abbrev pub tokens_by : JExpr-F Tokens → Tokens
 tokens_by (JExpr-F.Name n at) = Token.Id n at ∷ []
@@ -257,12 +334,33 @@ tokens_by (JExpr-F.Binary left op at right) = left ++ (operator_tokens op at ++ 
 tokens_by (JExpr-F.Instanceof left at to) = left ++ Token.Word w.Instanceof at ∷ type_tokens to
 tokens_by (JExpr-F.Conditional left question then_ colon else_) = left ++ Token.Sign m.Question question ∷ (then_ ++ Token.Sign m.Colon colon ∷ else_)
 tokens_by (JExpr-F.Assign left op at right) = left ++ (assign_tokens op at ++ right)
+tokens_by (JExpr-F.MinusLeast minus literal at) = Token.Sign m.Minus minus ∷ Token.Literal literal at ∷ []
 tokens_by (JExpr-F.Lambda params arrow body) = params_tokens params ++ Token.Sign m.Arrow arrow ∷ body
+tokens_by (JExpr-F.LambdaBlock params arrow body) = params_tokens params ++ Token.ArrowBody arrow body ∷ []
+tokens_by (JExpr-F.New at made lp args commas rp body) =
+    Token.Word w.New at ∷ (created_tokens made ++ Token.Sign m.OpenRound lp ∷ (listed commas args ++ args_close rp body ∷ []))
+tokens_by (JExpr-F.NewArray at of lb size rb more) =
+    Token.Word w.New at ∷ (type_tokens of ++ Token.Sign m.OpenSquare lb ∷ (size ++ Token.Sign m.CloseSquare rb ∷ brackets_tokens more))
+tokens_by (JExpr-F.NewFilled at of brackets lc inits commas more rc) =
+    Token.Word w.New at ∷ (type_tokens of ++ (brackets_tokens brackets ++ braces_tokens lc inits commas more rc))
+tokens_by (JExpr-F.Braces lc inits commas more rc) = braces_tokens lc inits commas more rc
 
 -- the tokens that a tree spells
 unfoldable pub tokens : JExpr → Tokens
 tokens = fold-JExpr Tokens tokens_by
 
+abbrev pub typed_depth : JTypedParam → ℕ
+typed_depth p = suc (type_depth p.kind)
+
+abbrev pub params_depth : JParams → ℕ
+params_depth (params.Typed lp ps commas rp) = deepest (map typed_depth ps)
+params_depth _ = 1
+
+abbrev pub created_depth : JCreated → ℕ
+created_depth (created.Type x) = type_depth x
+created_depth (created.Inferred q lp is_joined close) = 1
+
+-- A body is 1 deep.
 abbrev pub depth_by : JExpr-F ℕ → ℕ
 depth_by (JExpr-F.Name n at) = 1
 depth_by (JExpr-F.Literal literal at) = 1
@@ -280,7 +378,13 @@ depth_by (JExpr-F.Binary left op at right) = suc (max left right)
 depth_by (JExpr-F.Instanceof left at to) = suc (max left (type_depth to))
 depth_by (JExpr-F.Conditional left question then_ colon else_) = suc (max left (max then_ else_))
 depth_by (JExpr-F.Assign left op at right) = suc (max left right)
-depth_by (JExpr-F.Lambda params arrow body) = suc body
+depth_by (JExpr-F.MinusLeast minus literal at) = 2
+depth_by (JExpr-F.Lambda params arrow body) = suc (max (params_depth params) body)
+depth_by (JExpr-F.LambdaBlock params arrow body) = suc (max (params_depth params) 1)
+depth_by (JExpr-F.New at made lp args commas rp body) = suc (max (created_depth made) (deepest args))
+depth_by (JExpr-F.NewArray at of lb size rb more) = suc (max (type_depth of) size)
+depth_by (JExpr-F.NewFilled at of brackets lc inits commas more rc) = suc (max (type_depth of) (deepest inits))
+depth_by (JExpr-F.Braces lc inits commas more rc) = suc (deepest inits)
 
 unfoldable pub depth : JExpr → ℕ
 depth = fold-JExpr ℕ depth_by
@@ -301,34 +405,56 @@ abbrev pub may_cast : Bool → Tokens → Type 0
 may_cast true text = Unit {0}
 may_cast false text = begins_sign text ≡ false
 
-abbrev pub params_stand : JParams → Type 0
-params_stand (params.One p) = Unit {0}
-params_stand (params.Several lp ps commas rp) = (1 ≤ length ps) × AreBetween commas ps
+abbrev pub is_least : JLiteral → Bool
+is_least literal.LeastInteger = true
+is_least literal.LeastLong = true
+is_least _ = false
 
--- Each operand stands at its level: `P l` says that of an operand at the level l, and Q of a type.
-abbrev pub stands_by : (JType → Type 0) → (ℕ → JExpr → Type 0) → JExpr-F JExpr → Type 0
-stands_by Q P (JExpr-F.Name n at) = Unit {0}
-stands_by Q P (JExpr-F.Literal literal at) = Unit {0}
-stands_by Q P (JExpr-F.This at) = Unit {0}
-stands_by Q P (JExpr-F.Paren lp inner rp) = P any_level inner
-stands_by Q P (JExpr-F.Call n at lp args commas rp) = AreBetween commas args × AllByRecursion (P any_level) args
-stands_by Q P (JExpr-F.SuperCall above dot n at lp args commas rp) = AreBetween commas args × AllByRecursion (P any_level) args
-stands_by Q P (JExpr-F.Field left dot n at) = P primary_level left
-stands_by Q P (JExpr-F.Method left dot n at lp args commas rp) = P primary_level left × AreBetween commas args × AllByRecursion (P any_level) args
-stands_by Q P (JExpr-F.Element left lp index rp) = P primary_level left × P any_level index
-stands_by Q P (JExpr-F.Postfix left op at) = P postfix_level left
-stands_by Q P (JExpr-F.Prefix op at inner) = P unary_level inner
-stands_by Q P (JExpr-F.Cast lp to rp inner) = Q to × P unary_level inner × may_cast (is_primitive to) (tokens inner)
-stands_by Q P (JExpr-F.Binary left op at right) = P (level op) left × P ((level op + 1)) right × (may_compare op (is_test left) ≡ true)
-stands_by Q P (JExpr-F.Instanceof left at to) = P relation_level left × Q to
-stands_by Q P (JExpr-F.Conditional left question then_ colon else_) = P or_level left × P any_level then_ × P else_level else_
-stands_by Q P (JExpr-F.Assign left op at right) = P primary_level left × (is_left left ≡ true) × P any_level right
-stands_by Q P (JExpr-F.Lambda params arrow body) = params_stand params × P any_level body
+-- at a depth of at most the number
+unfoldable pub TypedStands : ℕ → JTypedParam → Type 0
+TypedStands zero p = ⊥
+TypedStands (suc d) p = TypeStands d p.kind
+
+abbrev pub params_stand : (JTypedParam → Type 0) → JParams → Type 0
+params_stand R (params.One p) = Unit {0}
+params_stand R (params.Several lp ps commas rp) = (1 ≤ length ps) × AreBetween commas ps
+params_stand R (params.Typed lp ps commas rp) = AreBetween commas ps × AllByRecursion R ps
+
+abbrev pub created_stands : (JType → Type 0) → JCreated → Type 0
+created_stands Q (created.Type x) = Q x × (is_class x ≡ true)
+created_stands Q (created.Inferred q lp is_joined close) = Unit {0}
+
+-- Each operand stands at its level: `P l` says that of an operand at the level l, Q of a type, and R of a parameter with its type.
+abbrev pub stands_by : (JType → Type 0) → (JTypedParam → Type 0) → (ℕ → JExpr → Type 0) → JExpr-F JExpr → Type 0
+stands_by Q R P (JExpr-F.Name n at) = Unit {0}
+stands_by Q R P (JExpr-F.Literal literal at) = is_least literal ≡ false
+stands_by Q R P (JExpr-F.This at) = Unit {0}
+stands_by Q R P (JExpr-F.Paren lp inner rp) = P any_level inner
+stands_by Q R P (JExpr-F.Call n at lp args commas rp) = AreBetween commas args × AllByRecursion (P any_level) args
+stands_by Q R P (JExpr-F.SuperCall above dot n at lp args commas rp) = AreBetween commas args × AllByRecursion (P any_level) args
+stands_by Q R P (JExpr-F.Field left dot n at) = P primary_level left
+stands_by Q R P (JExpr-F.Method left dot n at lp args commas rp) = P primary_level left × AreBetween commas args × AllByRecursion (P any_level) args
+stands_by Q R P (JExpr-F.Element left lp index rp) = P primary_level left × (is_sized left ≡ false) × P any_level index
+stands_by Q R P (JExpr-F.Postfix left op at) = P postfix_level left
+stands_by Q R P (JExpr-F.Prefix op at inner) = P unary_level inner
+stands_by Q R P (JExpr-F.Cast lp to rp inner) = Q to × P unary_level inner × may_cast (is_primitive to) (tokens inner)
+stands_by Q R P (JExpr-F.Binary left op at right) = P (level op) left × P ((level op + 1)) right × (may_compare op (is_test left) ≡ true)
+stands_by Q R P (JExpr-F.Instanceof left at to) = P relation_level left × Q to
+stands_by Q R P (JExpr-F.Conditional left question then_ colon else_) = P or_level left × P any_level then_ × P else_level else_
+stands_by Q R P (JExpr-F.Assign left op at right) = P primary_level left × (is_left left ≡ true) × P any_level right
+stands_by Q R P (JExpr-F.MinusLeast minus literal at) = is_least literal ≡ true
+stands_by Q R P (JExpr-F.Lambda params arrow body) = params_stand R params × P any_level body
+stands_by Q R P (JExpr-F.LambdaBlock params arrow body) = params_stand R params
+stands_by Q R P (JExpr-F.New at made lp args commas rp body) = created_stands Q made × AreBetween commas args × AllByRecursion (P any_level) args
+stands_by Q R P (JExpr-F.NewArray at of lb size rb more) = Q of × (is_array of ≡ false) × P any_level size
+stands_by Q R P (JExpr-F.NewFilled at of brackets lc inits commas more rc) =
+    Q of × (is_array of ≡ false) × (1 ≤ length brackets) × AreBetween commas inits × AllByRecursion (P init_level) inits
+stands_by Q R P (JExpr-F.Braces lc inits commas more rc) = AreBetween commas inits × AllByRecursion (P init_level) inits
 
 -- It stands at the level, with a depth of at most the first number.
 unfoldable pub Stands : ℕ → ℕ → JExpr → Type 0
 Stands zero l e = ⊥
-Stands (suc d) l e = (l ≤ top e) × stands_by (TypeStands d) (Stands d) (out-JExpr e)
+Stands (suc d) l e = (l ≤ top e) × stands_by (TypeStands d) (TypedStands d) (Stands d) (out-JExpr e)
 
 abbrev pub max_depth : ℕ
 max_depth = 200

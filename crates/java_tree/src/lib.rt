@@ -5,9 +5,12 @@ mod exprs;
 mod tokens;
 mod types;
 
-pub use exprs::{AssignOp, BinaryOp, JExpr, JLiteral, JParam, JParams, PostfixOp, PrefixOp};
+pub use exprs::{
+    AssignOp, BinaryOp, JCreated, JExpr, JLiteral, JParam, JParams, JTypedParam, PostfixOp, PrefixOp,
+    Span,
+};
 pub use tokens::{Comment, Comments, JToken, JTokens, Keyword, Mark, Position, TokenKind, Tokens};
-pub use types::{JType, Primitive};
+pub use types::{JBrackets, JDotted, JQualified, JType, Primitive};
 
 #[cfg(test)]
 mod tests;
