@@ -27,11 +27,11 @@ use Rattle.java_tree.specs.declared.exprs.JExpr.TheVariants as e
 use Rattle.java_tree.specs.declared.exprs.JExpr.TheOpen.{JExpr-F}
 use Rattle.java_tree.specs.Seen.{Tokens}
 use Rattle.java_tree.specs.Trees.{listed, AreBetween, prefix_mark, operator_tokens, assign_tokens, level, any_level, else_level, or_level, relation_level, unary_level, postfix_level, primary_level, is_test, is_test_by, may_compare, tokens, tokens_by, depth, depth_by, top, top_by, TypeStands, type_tokens, stands_by, Stands, is_primitive, is_primitive_by, may_cast, begins_sign, param_tokens, params_stand}
-use Rattle.java_spelling.specs.Reading as r
-use Rattle.java_spelling.specs.Reading.{Reader, ◌>>=◌, maybe}
-use Rattle.java_spelling.specs.declared.suffix.Suffix.{Suffix}
-use Rattle.java_spelling.specs.declared.suffix.Suffix.TheVariants as sx
-use Rattle.java_spelling.proofs.Tools.{true_le, true_lt, false_lt}
+use Rattle.java_reading.specs.Reading as r
+use Rattle.java_reading.specs.Reading.{Reader, ◌>>=◌, maybe}
+use Rattle.java_reading.specs.declared.suffix.Suffix.{Suffix}
+use Rattle.java_reading.specs.declared.suffix.Suffix.TheVariants as sx
+use Rattle.java_reading.proofs.Tools.{true_le, true_lt, false_lt}
 use Rattle.java_spelling.proofs.Lists as lists
 use Rattle.java_spelling.proofs.TypeLaws.{type_again, tokens_Primitive, begins_less}
 use Rattle.java_spelling.proofs.Trees.{spelled, deep, deep_out, top_roll, within, resize, layer_resize, all_resized, type_resize, at_level, level_is}

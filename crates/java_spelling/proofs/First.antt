@@ -24,7 +24,7 @@ use Rattle.java_tree.specs.declared.exprs.JExpr.{JExpr, out-JExpr, map-JExpr, fo
 use Rattle.java_tree.specs.declared.exprs.JExpr.TheOpen.{JExpr-F}
 use Rattle.java_tree.specs.Seen.{Tokens}
 use Rattle.java_tree.specs.Trees.{more_tokens, listed, closing, prefix_mark, postfix_mark, operator_tokens, assign_tokens, tokens, tokens_by, type_tokens, type_tokens_by, type_stands_by, TypeStands, stands_by, Stands, begins_sign, param_tokens, params_tokens}
-use Rattle.java_spelling.specs.Reading.{after_close, begins_primitive, begins_operand}
+use Rattle.java_reading.specs.Reading.{after_close, begins_primitive, begins_operand}
 
 pub tokens_out : (x : JExpr) → tokens x ≡ tokens_by (map-JExpr JExpr Tokens tokens (out-JExpr x))
 unfolding tokens

@@ -1,5 +1,3 @@
-pub mod Seen
-pub mod Tools
 pub mod Lists
 pub mod TypeLaws
 pub mod Trees
@@ -7,6 +5,3 @@ pub mod First
 pub mod Sound
 pub mod Again
 pub mod Theorem
-pub mod Parts
-pub mod ExprParts
-pub mod SpellParts

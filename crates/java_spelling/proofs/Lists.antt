@@ -7,8 +7,8 @@ use Rattle.java_tree.specs.declared.tokens.Mark.TheVariants as m
 use Rattle.java_tree.specs.Seen.{Token}
 use Rattle.java_tree.specs.Seen.{Tokens}
 use Rattle.java_tree.specs.Trees.{more_tokens, listed, AreBetween}
-use Rattle.java_spelling.specs.Reading.{Reader, Listed, comma, more, some_of}
-use Rattle.java_spelling.proofs.Tools.{bind_some, maybe_is, some_same}
+use Rattle.java_reading.specs.Reading.{Reader, Listed, comma, more, some_of}
+use Rattle.java_reading.proofs.Tools.{bind_some, maybe_is, some_same}
 
 pub comma_only : (ts : Tokens) (c : Position × Tokens) → comma ts ≡ Some c → ts ≡ Token.Sign m.Comma c.0 ∷ c.1
 comma_only (Token.Sign m.Comma at ∷ rest) c e = let same : (at, rest) ≡ c = some_same e in ap (λ (x : Position × Tokens). Token.Sign m.Comma x.0 ∷ x.1) same

@@ -17,12 +17,12 @@ use Rattle.java_tree.specs.declared.exprs.JExpr.TheVariants as e
 use Rattle.java_tree.specs.declared.exprs.JExpr.TheOpen.{JExpr-F}
 use Rattle.java_tree.specs.Seen.{Tokens}
 use Rattle.java_tree.specs.Trees.{listed, AreBetween, prefix_mark, postfix_mark, operator_tokens, assign_tokens, level, any_level, else_level, cond_level, or_level, relation_level, unary_level, postfix_level, primary_level, tokens, tokens_by, depth, top, top_by, is_left, is_left_by, TypeStands, type_tokens, stands_by, Stands, may_cast, begins_sign, param_tokens, params_tokens, params_stand}
-use Rattle.java_spelling.specs.Reading as r
-use Rattle.java_spelling.specs.Reading.{Reader, ◌>>=◌, maybe}
-use Rattle.java_spelling.specs.declared.suffix.Suffix.{Suffix}
-use Rattle.java_spelling.specs.declared.suffix.Suffix.TheVariants as sx
+use Rattle.java_reading.specs.Reading as r
+use Rattle.java_reading.specs.Reading.{Reader, ◌>>=◌, maybe}
+use Rattle.java_reading.specs.declared.suffix.Suffix.{Suffix}
+use Rattle.java_reading.specs.declared.suffix.Suffix.TheVariants as sx
 use Rattle.std.specs.Prelude.{if◌then◌else◌}
-use Rattle.java_spelling.proofs.Tools.{bind_some, guard_some, cond_is, maybe_is, some_same, le_true, lt_false, both_true}
+use Rattle.java_reading.proofs.Tools.{bind_some, guard_some, cond_is, maybe_is, some_same, le_true, lt_false, both_true}
 use Rattle.java_spelling.proofs.Lists as lists
 use Rattle.java_spelling.proofs.TypeLaws.{type_sound}
 use Rattle.java_spelling.proofs.Trees.{spelled, top_roll, resize, at_level, level_is}

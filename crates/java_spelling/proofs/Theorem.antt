@@ -4,7 +4,7 @@ use Rattle.std.proofs.lemmas.List.{append-nil}
 use Rattle.java_tree.specs.declared.exprs.JExpr.{JExpr}
 use Rattle.java_tree.specs.Seen.{Tokens}
 use Rattle.java_tree.specs.Trees.{tokens, any_level, max_depth, JSpells}
-use Rattle.java_spelling.specs.Reading as r
+use Rattle.java_reading.specs.Reading as r
 use Rattle.java_spelling.proofs.Sound.{sound}
 use Rattle.java_spelling.proofs.Again.{again, bound_pos}
 

@@ -13,8 +13,8 @@ use Rattle.java_tree.specs.declared.types.JType.TheVariants as ty
 use Rattle.java_tree.specs.declared.types.JType.TheOpen.{JType-F}
 use Rattle.java_tree.specs.Seen.{Tokens}
 use Rattle.java_tree.specs.Trees.{listed, AreBetween, closing, primitive_word, type_tokens, type_tokens_by, type_stands_by, TypeStands}
-use Rattle.java_spelling.specs.Reading.{Reader, comma, closes, some_of, applied, class_by, primitive_by, primitive_at, type_step, type_read}
-use Rattle.java_spelling.proofs.Tools.{bind_some, some_same}
+use Rattle.java_reading.specs.Reading.{Reader, comma, closes, some_of, applied, class_by, primitive_by, primitive_at, type_step, type_read}
+use Rattle.java_reading.proofs.Tools.{bind_some, some_same}
 use Rattle.java_spelling.proofs.Lists as lists
 
 pub tokens_Primitive : (p : Primitive) (at : Position) → type_tokens (ty.Primitive p at) ≡ Token.Word (primitive_word p) at ∷ []

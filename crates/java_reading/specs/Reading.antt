@@ -13,17 +13,25 @@ use Rattle.java_tree.specs.declared.tokens.Keyword.TheVariants as w
 use Rattle.java_tree.specs.declared.exprs.PostfixOp.TheVariants as postfix
 use Rattle.java_tree.specs.declared.exprs.BinaryOp.TheVariants as op
 use Rattle.java_tree.specs.declared.exprs.AssignOp.TheVariants as assign
+use Rattle.java_tree.specs.declared.exprs.Span.{Span}
+use Rattle.java_tree.specs.declared.exprs.JLiteral.{JLiteral}
+use Rattle.java_tree.specs.declared.exprs.JCreated.{JCreated}
+use Rattle.java_tree.specs.declared.exprs.JCreated.TheVariants as created
+use Rattle.java_tree.specs.declared.exprs.JTypedParam.{JTypedParam}
 use Rattle.java_tree.specs.declared.exprs.JParam.{JParam}
 use Rattle.java_tree.specs.declared.exprs.JParams.{JParams}
 use Rattle.java_tree.specs.declared.exprs.JParams.TheVariants as params
+use Rattle.java_tree.specs.declared.types.JDotted.{JDotted}
+use Rattle.java_tree.specs.declared.types.JQualified.{JQualified}
+use Rattle.java_tree.specs.declared.types.JBrackets.{JBrackets}
 use Rattle.java_tree.specs.declared.types.JType.{JType}
 use Rattle.java_tree.specs.declared.types.JType.TheVariants as ty
 use Rattle.java_tree.specs.declared.exprs.JExpr.{JExpr}
 use Rattle.java_tree.specs.declared.exprs.JExpr.TheVariants as e
-use Rattle.java_spelling.specs.declared.suffix.Suffix.{Suffix}
-use Rattle.java_spelling.specs.declared.suffix.Suffix.TheVariants as sx
+use Rattle.java_reading.specs.declared.suffix.Suffix.{Suffix}
+use Rattle.java_reading.specs.declared.suffix.Suffix.TheVariants as sx
 use Rattle.java_tree.specs.Seen.{Tokens}
-use Rattle.java_tree.specs.Trees.{level, any_level, else_level, cond_level, or_level, relation_level, unary_level, postfix_level, primary_level, top, is_test, may_compare, is_left, depth, is_primitive, begins_sign}
+use Rattle.java_tree.specs.Trees.{level, init_level, any_level, else_level, cond_level, or_level, relation_level, unary_level, postfix_level, primary_level, top, is_test, is_sized, may_compare, is_left, is_least, depth, type_depth, is_primitive, is_class, begins_sign}
 
 -- a value and the tokens after it
 abbrev pub Read : Type 0 → Type 0
@@ -60,6 +68,14 @@ abbrev pub close_square : Reader Position
 close_square (Token.Sign m.CloseSquare at ∷ rest) = Some (at, rest)
 close_square _ = None
 
+abbrev pub open_square : Reader Position
+open_square (Token.Sign m.OpenSquare at ∷ rest) = Some (at, rest)
+open_square _ = None
+
+abbrev pub open_curly : Reader Position
+open_curly (Token.Sign m.OpenCurly at ∷ rest) = Some (at, rest)
+open_curly _ = None
+
 abbrev pub dot : Reader Position
 dot (Token.Sign m.Dot at ∷ rest) = Some (at, rest)
 dot _ = None
@@ -76,19 +92,19 @@ abbrev pub ident : Reader JParam
 ident (Token.Id n at ∷ rest) = Some (record { name = n; at = at }, rest)
 ident _ = None
 
--- ---- lists with commas. The number bounds the turns, and each turn takes a comma.
+-- ---- lists with commas, which `between` reads. The number bounds the turns, and each turn takes a comma.
 
 abbrev pub Listed : Type 0 → Type 0
 Listed A = List A × List Position
 
-unfoldable pub more : {A : Type 0} → Reader A → ℕ → List A → List Position → Reader (Listed A)
-more item zero found commas ts = Some ((found, commas), ts)
-more item (suc n) found commas ts =
-    maybe (comma ts) (Some ((found, commas), ts)) (λ c. item c.1 >>= λ x. more item n (found ++ x.0 ∷ []) (commas ++ c.0 ∷ []) x.1)
+unfoldable pub more_by : {A : Type 0} → Reader Position → Reader A → ℕ → List A → List Position → Reader (Listed A)
+more_by between item zero found commas ts = Some ((found, commas), ts)
+more_by between item (suc n) found commas ts =
+    maybe (between ts) (Some ((found, commas), ts)) (λ c. item c.1 >>= λ x. more_by between item n (found ++ x.0 ∷ []) (commas ++ c.0 ∷ []) x.1)
 
 -- one or more
-unfoldable pub some_of : {A : Type 0} → Reader A → Reader (Listed A)
-some_of item ts = item ts >>= λ x. more item (length x.1) (x.0 ∷ []) [] x.1
+unfoldable pub some_by : {A : Type 0} → Reader Position → Reader A → Reader (Listed A)
+some_by between item ts = item ts >>= λ x. more_by between item (length x.1) (x.0 ∷ []) [] x.1
 
 -- ---- types
 
@@ -101,15 +117,29 @@ abbrev pub closes : Reader (Bool × Position)
 closes (Token.Sign mark at ∷ rest) = closes_by mark at rest
 closes _ = None
 
-unfoldable pub applied : Reader JType → List ℕ → Position → Position → Reader JType
-applied sub n at lp ts = do
-  args ← some_of sub ts
-  end ← closes args.1
-  Some (ty.Applied n at lp args.0.0 args.0.1 end.0.0 end.0.1, end.1)
+-- the dots and names that come first
+unfoldable pub dotted : Tokens → List JDotted × Tokens
+dotted (Token.Sign m.Dot d ∷ Token.Id n at ∷ rest) = (record { dot = d; name = n; at = at } ∷ (dotted rest).0, (dotted rest).1)
+dotted rest = ([], rest)
 
-abbrev pub class_by : Reader JType → List ℕ → Position → Reader JType
-class_by sub n at (Token.Sign m.Less lp ∷ rest) = applied sub n at lp rest
-class_by sub n at rest = Some (ty.Class n at, rest)
+-- a name and those behind it
+abbrev pub qualified : List ℕ → Position → Tokens → JQualified × Tokens
+qualified n at rest = (record { name = n; at = at; rest = (dotted rest).0 }, (dotted rest).1)
+
+-- the pairs of brackets that come first
+unfoldable pub brackets : Tokens → List JBrackets × Tokens
+brackets (Token.Sign m.OpenSquare o ∷ Token.Sign m.CloseSquare c ∷ rest) = (record { opens = o; closes = c } ∷ (brackets rest).0, (brackets rest).1)
+brackets rest = ([], rest)
+
+unfoldable pub applied : Reader JType → JQualified → Position → Reader JType
+applied sub q lp ts = do
+  args ← some_by comma sub ts
+  end ← closes args.1
+  Some (ty.Applied q lp args.0.0 args.0.1 end.0.0 end.0.1, end.1)
+
+abbrev pub class_by : Reader JType → JQualified → Reader JType
+class_by sub q (Token.Sign m.Less lp ∷ rest) = applied sub q lp rest
+class_by sub q rest = Some (ty.Class q, rest)
 
 abbrev pub primitive_by : Keyword → Option Primitive
 primitive_by w.Byte = Some primitive.Byte
@@ -124,15 +154,43 @@ abbrev pub primitive_at : Option Primitive → Position → Reader JType
 primitive_at (Some p) at rest = Some (ty.Primitive p at, rest)
 primitive_at None at rest = None
 
-abbrev pub type_step : Reader JType → Reader JType
-type_step sub (Token.Id n at ∷ rest) = class_by sub n at rest
-type_step sub (Token.Word word at ∷ rest) = primitive_at (primitive_by word) at rest
-type_step sub _ = None
+-- a type without the brackets of an array
+unfoldable pub base_step : Reader JType → Reader JType
+base_step sub (Token.Id n at ∷ rest) = class_by sub (qualified n at rest).0 (qualified n at rest).1
+base_step sub (Token.Word word at ∷ rest) = primitive_at (primitive_by word) at rest
+base_step sub _ = None
+
+-- the array of the elements, where brackets came, which is no deeper than suc d
+abbrev pub array_by : ℕ → JType → List JBrackets × Tokens → Read JType
+array_by d element ([], rest) = Some (element, rest)
+array_by d element (x ∷ xs, rest) = if nat_le (type_depth element) d then Some (ty.Array element (x ∷ xs), rest) else None
 
 -- a type with a depth of at most the number
 unfoldable pub type_read : ℕ → Reader JType
 type_read zero ts = None
-type_read (suc d) ts = type_step (type_read d) ts
+type_read (suc d) ts = base_step (type_read d) ts >>= λ x. array_by d x.0 (brackets x.1)
+
+-- one that is no array
+unfoldable pub base_read : ℕ → Reader JType
+base_read zero ts = None
+base_read (suc d) ts = base_step (type_read d) ts
+
+-- ---- parameters with types
+
+unfoldable pub typed_by : Reader JType → Option Position → Reader JTypedParam
+typed_by types is_final ts = do
+  kind ← types ts
+  n ← ident kind.1
+  Some (record { is_final = is_final; kind = kind.0; name = n.0.name; at = n.0.at }, n.1)
+
+abbrev pub typed_step : Reader JType → Reader JTypedParam
+typed_step types (Token.Word w.Final at ∷ rest) = typed_by types (Some at) rest
+typed_step types ts = typed_by types None ts
+
+-- a parameter with a depth of at most the number
+unfoldable pub typed_read : ℕ → Reader JTypedParam
+typed_read zero ts = None
+typed_read (suc d) ts = typed_step (type_read d) ts
 
 -- ---- what goes on after an operand
 
@@ -214,7 +272,7 @@ takes (sx.Binary op at) left = nat_le (level op) (top left) && may_compare op (i
 takes (sx.Assign op at) left = is_left left
 takes (sx.Question at) left = nat_le or_level (top left)
 takes (sx.Dot at) left = nat_le primary_level (top left)
-takes (sx.Square at) left = nat_le primary_level (top left)
+takes (sx.Square at) left = nat_le primary_level (top left) && not (is_sized left)
 takes (sx.Postfix op at) left = nat_le postfix_level (top left)
 takes (sx.Instanceof at) left = nat_le relation_level (top left)
 
@@ -235,6 +293,8 @@ after_close n [] = []
 after_close n (Token.Sign m.OpenRound at ∷ rest) = after_close (suc n) rest
 after_close zero (Token.Sign m.CloseRound at ∷ rest) = rest
 after_close (suc n) (Token.Sign m.CloseRound at ∷ rest) = after_close n rest
+after_close zero (Token.CloseBody at body ∷ rest) = rest
+after_close (suc n) (Token.CloseBody at body ∷ rest) = after_close n rest
 after_close n (x ∷ rest) = after_close n rest
 
 abbrev pub is_some : {A : Type 0} → Option A → Bool
@@ -263,19 +323,67 @@ begins_operand (Token.Id n at ∷ rest) = true
 begins_operand (Token.Literal literal at ∷ rest) = true
 begins_operand (Token.Sign mark at ∷ rest) = operand_mark mark
 begins_operand (Token.Word word at ∷ rest) = operand_word word
-begins_operand [] = false
+begins_operand _ = false
 
 abbrev pub begins_arrow : Tokens → Bool
 begins_arrow (Token.Sign m.Arrow at ∷ rest) = true
+begins_arrow (Token.ArrowBody at body ∷ rest) = true
 begins_arrow _ = false
 
 -- whether the tokens after a `(` begin a cast
 abbrev pub is_cast : Tokens → Bool
 is_cast ts = begins_primitive ts || begins_operand (after_close 0 ts)
 
--- ---- expressions. `sub` reads parts, at a level.
+-- whether a name with a comma or a `)` behind it comes first
+abbrev pub ends_name : Mark → Bool
+ends_name m.Comma = true
+ends_name m.CloseRound = true
+ends_name _ = false
 
-module _ (types : Reader JType) (sub : ℕ → Reader JExpr) where
+abbrev pub begins_names : Tokens → Bool
+begins_names (Token.Id n at ∷ Token.Sign mark p ∷ rest) = ends_name mark
+begins_names _ = false
+
+-- ---- what is created, and the values in braces
+
+abbrev pub begins_inferred_by : Tokens → Bool
+begins_inferred_by (Token.Sign m.Less lp ∷ rest) = is_some (closes rest)
+begins_inferred_by _ = false
+
+-- whether a name with `<` and `>` behind it comes first
+abbrev pub begins_inferred : Tokens → Bool
+begins_inferred (Token.Id n at ∷ rest) = begins_inferred_by (dotted rest).1
+begins_inferred _ = false
+
+abbrev pub inferred_by : JQualified → Reader JCreated
+inferred_by q (Token.Sign m.Less lp ∷ rest) = closes rest >>= λ c. Some (created.Inferred q lp c.0.0 c.0.1, c.1)
+inferred_by q _ = None
+
+abbrev pub inferred : Reader JCreated
+inferred (Token.Id n at ∷ rest) = inferred_by (qualified n at rest).0 (qualified n at rest).1
+inferred _ = None
+
+-- the `)` behind arguments, and the body of an anonymous class where one stands behind it
+abbrev pub args_end : Reader (Position × Option Span)
+args_end (Token.Sign m.CloseRound at ∷ rest) = Some ((at, None), rest)
+args_end (Token.CloseBody at body ∷ rest) = Some ((at, Some body), rest)
+args_end _ = None
+
+-- a comma with no `}` behind it
+abbrev pub inner_comma : Reader Position
+inner_comma (Token.Sign m.Comma at ∷ Token.Sign m.CloseCurly rc ∷ rest) = None
+inner_comma (Token.Sign m.Comma at ∷ rest) = Some (at, rest)
+inner_comma _ = None
+
+-- the `}` behind values, and the comma before it where one stands
+abbrev pub braces_end : Reader (Option Position × Position)
+braces_end (Token.Sign m.Comma at ∷ Token.Sign m.CloseCurly rc ∷ rest) = Some ((Some at, rc), rest)
+braces_end (Token.Sign m.CloseCurly rc ∷ rest) = Some ((None, rc), rest)
+braces_end _ = None
+
+-- ---- expressions. `types` reads types, `base` those that are no arrays, `typed` parameters, and `sub` parts, at a level.
+
+module _ (types base : Reader JType) (typed : Reader JTypedParam) (sub : ℕ → Reader JExpr) where
   unfoldable pub cast_of : Position → JType → Position → Reader JExpr
   cast_of lp to rp ts = sub unary_level ts >>= λ x. Some (e.Cast lp to rp x.0, x.1)
 
@@ -291,24 +399,41 @@ module _ (types : Reader JType) (sub : ℕ → Reader JExpr) where
     rp ← close inner.1
     Some (e.Paren lp inner.0 rp.0, rp.1)
 
-  unfoldable pub lambda : JParams → Reader JExpr
-  lambda params ts = do
+  unfoldable pub lambda_body : JParams → Reader JExpr
+  lambda_body params ts = do
     at ← arrow ts
     body ← sub any_level at.1
     Some (e.Lambda params at.0 body.0, body.1)
 
-  unfoldable pub lambda_of : Position → Reader JExpr
-  lambda_of lp ts = do
-    ps ← some_of ident ts
+  -- behind the parameters
+  unfoldable pub lambda : JParams → Reader JExpr
+  lambda params (Token.ArrowBody at body ∷ rest) = Some (e.LambdaBlock params at body, rest)
+  lambda params ts = lambda_body params ts
+
+  unfoldable pub lambda_names : Position → Reader JExpr
+  lambda_names lp ts = do
+    ps ← some_by comma ident ts
     rp ← close ps.1
     lambda (params.Several lp ps.0.0 ps.0.1 rp.0) rp.1
+
+  unfoldable pub typed_from : Reader (Listed JTypedParam)
+  typed_from ts = maybe (close ts) (some_by comma typed ts) (λ c. Some (([], []), ts))
+
+  unfoldable pub lambda_typed : Position → Reader JExpr
+  lambda_typed lp ts = do
+    ps ← typed_from ts
+    rp ← close ps.1
+    lambda (params.Typed lp ps.0.0 ps.0.1 rp.0) rp.1
+
+  unfoldable pub lambda_of : Position → Reader JExpr
+  lambda_of lp ts = if begins_names ts then lambda_names lp ts else lambda_typed lp ts
 
   -- behind a `(`
   unfoldable pub group : Position → Reader JExpr
   group lp ts = if begins_arrow (after_close 0 ts) then lambda_of lp ts else (if is_cast ts then cast lp ts else paren lp ts)
 
   unfoldable pub args_from : Reader (Listed JExpr)
-  args_from ts = maybe (close ts) (some_of (sub any_level) ts) (λ c. Some (([], []), ts))
+  args_from ts = maybe (args_end ts) (some_by comma (sub any_level) ts) (λ c. Some (([], []), ts))
 
   unfoldable pub call : List ℕ → Position → Position → Reader JExpr
   call n at lp ts = do
@@ -329,31 +454,87 @@ module _ (types : Reader JType) (sub : ℕ → Reader JExpr) where
     lp ← open_round n.1
     super_args above d.0 n.0 lp.0 lp.1
 
+  unfoldable pub new_args : Position → JCreated → Position → Reader JExpr
+  new_args at made lp ts = do
+    args ← args_from ts
+    end ← args_end args.1
+    Some (e.New at made lp args.0.0 args.0.1 end.0.0 end.0.1, end.1)
+
+  unfoldable pub new_inferred : Position → Reader JExpr
+  new_inferred at ts = do
+    made ← inferred ts
+    lp ← open_round made.1
+    new_args at made.0 lp.0 lp.1
+
+  unfoldable pub new_sized : Position → JType → Position → Reader JExpr
+  new_sized at of lb ts = do
+    size ← sub any_level ts
+    rb ← close_square size.1
+    Some (e.NewArray at of lb size.0 rb.0 (brackets rb.1).0, (brackets rb.1).1)
+
+  unfoldable pub inits : Reader (Listed JExpr)
+  inits ts = maybe (braces_end ts) (some_by inner_comma (sub init_level) ts) (λ c. Some (([], []), ts))
+
+  unfoldable pub new_filled : Position → JType → List JBrackets → Reader JExpr
+  new_filled at of pairs ts = do
+    lc ← open_curly ts
+    values ← inits lc.1
+    end ← braces_end values.1
+    Some (e.NewFilled at of pairs lc.0 values.0.0 values.0.1 end.0.0 end.0.1, end.1)
+
+  abbrev pub new_array : Position → JType → Position → Reader JExpr
+  new_array at of lb (Token.Sign m.CloseSquare rb ∷ rest) = new_filled at of (record { opens = lb; closes = rb } ∷ (brackets rest).0) (brackets rest).1
+  new_array at of lb rest = new_sized at of lb rest
+
+  -- behind the type
+  abbrev pub new_of : Position → JType → Reader JExpr
+  new_of at of (Token.Sign m.OpenRound lp ∷ rest) = if is_class of then new_args at (created.Type of) lp rest else None
+  new_of at of (Token.Sign m.OpenSquare lb ∷ rest) = new_array at of lb rest
+  new_of at of _ = None
+
+  unfoldable pub creation : Position → Reader JExpr
+  creation at ts = if begins_inferred ts then new_inferred at ts else (base ts >>= λ x. new_of at x.0 x.1)
+
+  unfoldable pub braces : Position → Reader JExpr
+  braces lc ts = do
+    values ← inits ts
+    end ← braces_end values.1
+    Some (e.Braces lc values.0.0 values.0.1 end.0.0 end.0.1, end.1)
+
   abbrev pub worded : Keyword → Position → Reader JExpr
   worded w.This at rest = Some (e.This at, rest)
   worded w.Super at rest = super_call at rest
+  worded w.New at rest = creation at rest
   worded _ at rest = None
 
   unfoldable pub named : List ℕ → Position → Reader JExpr
   named n at (Token.Sign m.OpenRound lp ∷ rest) = call n at lp rest
   named n at (Token.Sign m.Arrow arrow ∷ rest) = lambda (params.One (record { name = n; at = at })) (Token.Sign m.Arrow arrow ∷ rest)
+  named n at (Token.ArrowBody arrow body ∷ rest) = lambda (params.One (record { name = n; at = at })) (Token.ArrowBody arrow body ∷ rest)
   named n at rest = Some (e.Name n at, rest)
 
   unfoldable pub prefixed : Option PrefixOp → Position → Reader JExpr
   prefixed None at ts = None
   prefixed (Some op) at ts = sub unary_level ts >>= λ x. Some (e.Prefix op at x.0, x.1)
 
+  abbrev pub minus : Position → Reader JExpr
+  minus at (Token.Literal literal p ∷ rest) =
+      if is_least literal then Some (e.MinusLeast at literal p, rest) else prefixed (Some prefix.Minus) at (Token.Literal literal p ∷ rest)
+  minus at ts = prefixed (Some prefix.Minus) at ts
+
   abbrev pub marked : Mark → Position → Reader JExpr
   marked m.OpenRound at ts = group at ts
+  marked m.OpenCurly at ts = braces at ts
+  marked m.Minus at ts = minus at ts
   marked mark at ts = prefixed (prefix_by mark) at ts
 
   -- what no suffix makes
   unfoldable pub operand : Reader JExpr
-  operand [] = None
   operand (Token.Id n at ∷ rest) = named n at rest
-  operand (Token.Literal n at ∷ rest) = Some (e.Literal n at, rest)
+  operand (Token.Literal literal at ∷ rest) = if is_least literal then None else Some (e.Literal literal at, rest)
   operand (Token.Word word at ∷ rest) = worded word at rest
   operand (Token.Sign mark at ∷ rest) = marked mark at rest
+  operand _ = None
 
   unfoldable pub choice : JExpr → Position → Reader JExpr
   choice left question ts = do
@@ -406,7 +587,7 @@ module _ (types : Reader JType) (sub : ℕ → Reader JExpr) where
 -- an expression that stands at the level, with a depth of at most the first number
 unfoldable pub read : ℕ → ℕ → Reader JExpr
 read zero least ts = None
-read (suc d) least ts = level_read (type_read d) (read d) d least ts
+read (suc d) least ts = level_read (type_read d) (base_read d) (typed_read d) (read d) d least ts
 
 abbrev pub whole : {A : Type 0} → Read A → Option A
 whole None = None

@@ -1,7 +1,7 @@
 use Rattle.java_tree.specs.Seen.{seen}
 use Rattle.std.proofs.Common.{◌≡◌, ◌≤◌, ◌+◌, ◌*◌, ◌++◌, length, map}
 use Rattle.java_tree.specs.Trees as s
-use Rattle.java_spelling.proofs.writing.+spell_types.Given as goal
+use Rattle.java_writing.proofs.writing.+spell_types.Given as goal
 
 abbrev pub decreases-put_type : goal.decreases-put_type
 decreases-put_type l = 3 * s.type_depth l.x.now

@@ -1,7 +1,7 @@
 use Rattle.java_tree.specs.Seen.{seen}
 use Rattle.std.proofs.Common.{◌≡◌, ◌≤◌, ◌+◌, ◌*◌, ◌++◌, length, map}
 use Rattle.java_tree.specs.Trees as s
-use Rattle.java_spelling.proofs.writing.+spell_exprs.Given as goal
+use Rattle.java_writing.proofs.writing.+spell_exprs.Given as goal
 
 abbrev pub decreases-put_expr : goal.decreases-put_expr
 decreases-put_expr l = 3 * s.depth l.x.now

@@ -1,26 +1,23 @@
--- The tokens of each form.
-use Rattle.std.proofs.Common.{◌≡◌, ℕ, suc, Bool, List, [], ◌∷◌, ◌++◌, map, refl, ap, sym, ◌∙◌, append_assoc}
+-- The tokens of each form of an expression.
+use Rattle.std.proofs.Common.{◌≡◌, ℕ, List, [], ◌∷◌, ◌++◌, map, Option, refl, ap, sym, ◌∙◌}
 use Rattle.java_tree.specs.declared.tokens.Position.{Position}
 use Rattle.java_tree.specs.declared.tokens.Mark.TheVariants as m
-use Rattle.java_tree.specs.Seen.{Token}
+use Rattle.java_tree.specs.Seen.{Token, Tokens}
 use Rattle.java_tree.specs.declared.tokens.Keyword.TheVariants as w
 use Rattle.java_tree.specs.declared.exprs.JLiteral.{JLiteral}
 use Rattle.java_tree.specs.declared.exprs.PostfixOp.{PostfixOp}
 use Rattle.java_tree.specs.declared.exprs.PrefixOp.{PrefixOp}
-use Rattle.java_spelling.proofs.Seen.{seen_more, seen_none}
 use Rattle.java_tree.specs.declared.exprs.BinaryOp.{BinaryOp}
 use Rattle.java_tree.specs.declared.exprs.AssignOp.{AssignOp}
 use Rattle.java_tree.specs.declared.exprs.JParams.{JParams}
+use Rattle.java_tree.specs.declared.exprs.JCreated.{JCreated}
+use Rattle.java_tree.specs.declared.exprs.Span.{Span}
+use Rattle.java_tree.specs.declared.types.JBrackets.{JBrackets}
 use Rattle.java_tree.specs.declared.types.JType.{JType}
 use Rattle.java_tree.specs.declared.exprs.JExpr.{JExpr, roll-JExpr, map-JExpr, fold-roll-JExpr}
 use Rattle.java_tree.specs.declared.exprs.JExpr.TheVariants as e
 use Rattle.java_tree.specs.declared.exprs.JExpr.TheOpen.{JExpr-F}
-use Rattle.java_tree.specs.Seen.{Tokens}
-use Rattle.java_tree.specs.Trees.{tokens, tokens_by, type_tokens, params_tokens, prefix_mark, postfix_mark, operator_tokens, assign_tokens, listed}
-use Rattle.std.proofs.lemmas.List.{append-nil}
-use Rattle.java_spelling.proofs.ExprParts.{parts as depths}
-use Rattle.java_spelling.proofs.Parts.{parts as type_depths}
-use Rattle.java_spelling.proofs.TypeLaws.{tokens_Primitive, tokens_Class, tokens_Applied}
+use Rattle.java_tree.specs.Trees.{tokens, tokens_by, type_tokens, params_tokens, created_tokens, args_close, braces_tokens, brackets_tokens, prefix_mark, postfix_mark, operator_tokens, assign_tokens, listed}
 
 layer : (x : JExpr-F JExpr) (y : JExpr) (text : Tokens) → roll-JExpr x ≡ y → tokens_by (map-JExpr JExpr Tokens tokens x) ≡ text → tokens y ≡ text
 unfolding tokens
@@ -82,8 +79,25 @@ tokens_Assign x op at y = layer (JExpr-F.Assign x op at y) _ _ (e.rolls-Assign x
 pub tokens_Lambda : (ps : JParams) (arrow : Position) (x : JExpr) → tokens (e.Lambda ps arrow x) ≡ params_tokens ps ++ Token.Sign m.Arrow arrow ∷ tokens x
 tokens_Lambda ps arrow x = layer (JExpr-F.Lambda ps arrow x) _ _ (e.rolls-Lambda ps arrow x) refl
 
--- what was there, and then a token
-pub mark_joins : {A : Type 0} (a : List A) (x : A) (b : List A) → (a ++ x ∷ []) ++ b ≡ a ++ x ∷ b
-mark_joins a x b = append_assoc a (x ∷ []) b
+pub tokens_MinusLeast : (minus : Position) (x : JLiteral) (at : Position) → tokens (e.MinusLeast minus x at) ≡ Token.Sign m.Minus minus ∷ Token.Literal x at ∷ []
+tokens_MinusLeast minus x at = layer (JExpr-F.MinusLeast minus x at) _ _ (e.rolls-MinusLeast minus x at) refl
 
-pub ruleset joins = (append_assoc, append-nil, depths, type_depths, tokens_Primitive, tokens_Class, tokens_Applied, tokens_Name, tokens_Literal, tokens_This, tokens_SuperCall, tokens_Method, tokens_Element, tokens_Postfix, tokens_Instanceof, seen_more, seen_none, tokens_Paren, tokens_Call, tokens_Field, tokens_Prefix, tokens_Cast, tokens_Binary, tokens_Conditional, tokens_Assign, tokens_Lambda)
+pub tokens_LambdaBlock : (ps : JParams) (arrow : Position) (body : Span) → tokens (e.LambdaBlock ps arrow body) ≡ params_tokens ps ++ Token.ArrowBody arrow body ∷ []
+tokens_LambdaBlock ps arrow body = layer (JExpr-F.LambdaBlock ps arrow body) _ _ (e.rolls-LambdaBlock ps arrow body) refl
+
+pub tokens_New : (at : Position) (made : JCreated) (lp : Position) (xs : List JExpr) (ps : List Position) (rp : Position) (body : Option Span)
+    → tokens (e.New at made lp xs ps rp body) ≡ Token.Word w.New at ∷ (created_tokens made ++ Token.Sign m.OpenRound lp ∷ (listed ps (map tokens xs) ++ args_close rp body ∷ []))
+tokens_New at made lp xs ps rp body = layer (JExpr-F.New at made lp xs ps rp body) _ _ (e.rolls-New at made lp xs ps rp body) refl
+
+pub tokens_NewArray : (at : Position) (of : JType) (lb : Position) (size : JExpr) (rb : Position) (pairs : List JBrackets)
+    → tokens (e.NewArray at of lb size rb pairs) ≡ Token.Word w.New at ∷ (type_tokens of ++ Token.Sign m.OpenSquare lb ∷ (tokens size ++ Token.Sign m.CloseSquare rb ∷ brackets_tokens pairs))
+tokens_NewArray at of lb size rb pairs = layer (JExpr-F.NewArray at of lb size rb pairs) _ _ (e.rolls-NewArray at of lb size rb pairs) refl
+
+pub tokens_NewFilled : (at : Position) (of : JType) (pairs : List JBrackets) (lc : Position) (xs : List JExpr) (ps : List Position) (more : Option Position) (rc : Position)
+    → tokens (e.NewFilled at of pairs lc xs ps more rc) ≡ Token.Word w.New at ∷ (type_tokens of ++ (brackets_tokens pairs ++ braces_tokens lc (map tokens xs) ps more rc))
+tokens_NewFilled at of pairs lc xs ps more rc = layer (JExpr-F.NewFilled at of pairs lc xs ps more rc) _ _ (e.rolls-NewFilled at of pairs lc xs ps more rc) refl
+
+pub tokens_Braces : (lc : Position) (xs : List JExpr) (ps : List Position) (more : Option Position) (rc : Position) → tokens (e.Braces lc xs ps more rc) ≡ braces_tokens lc (map tokens xs) ps more rc
+tokens_Braces lc xs ps more rc = layer (JExpr-F.Braces lc xs ps more rc) _ _ (e.rolls-Braces lc xs ps more rc) refl
+
+pub ruleset texts = (tokens_Name, tokens_Literal, tokens_This, tokens_SuperCall, tokens_Method, tokens_Element, tokens_Postfix, tokens_Instanceof, tokens_Paren, tokens_Call, tokens_Field, tokens_Prefix, tokens_Cast, tokens_Binary, tokens_Conditional, tokens_Assign, tokens_Lambda, tokens_MinusLeast, tokens_LambdaBlock, tokens_New, tokens_NewArray, tokens_NewFilled, tokens_Braces)

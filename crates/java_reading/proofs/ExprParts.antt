@@ -1,5 +1,5 @@
 -- The depth of each form of an expression.
-use Rattle.std.proofs.Common.{◌≡◌, ℕ, suc, max, List, map, refl, ap, sym, ◌∙◌}
+use Rattle.std.proofs.Common.{◌≡◌, ℕ, suc, max, List, map, Option, refl, ap, sym, ◌∙◌}
 use Rattle.java_tree.specs.declared.tokens.Position.{Position}
 use Rattle.java_tree.specs.declared.exprs.JLiteral.{JLiteral}
 use Rattle.java_tree.specs.declared.exprs.PostfixOp.{PostfixOp}
@@ -7,13 +7,16 @@ use Rattle.java_tree.specs.declared.exprs.PrefixOp.{PrefixOp}
 use Rattle.java_tree.specs.declared.exprs.BinaryOp.{BinaryOp}
 use Rattle.java_tree.specs.declared.exprs.AssignOp.{AssignOp}
 use Rattle.java_tree.specs.declared.exprs.JParams.{JParams}
+use Rattle.java_tree.specs.declared.exprs.JCreated.{JCreated}
+use Rattle.java_tree.specs.declared.exprs.Span.{Span}
+use Rattle.java_tree.specs.declared.types.JBrackets.{JBrackets}
 use Rattle.java_tree.specs.declared.types.JType.{JType}
 use Rattle.java_tree.specs.declared.exprs.JExpr.{JExpr, roll-JExpr, map-JExpr, fold-roll-JExpr}
 use Rattle.java_tree.specs.declared.exprs.JExpr.TheVariants as e
 use Rattle.java_tree.specs.declared.exprs.JExpr.TheOpen.{JExpr-F}
-use Rattle.java_tree.specs.Trees.{depth, depth_by, type_depth, deepest}
-use Rattle.java_spelling.proofs.Parts.{deepest_more}
-use Rattle.java_spelling.proofs.Seen.{length_seen}
+use Rattle.java_tree.specs.Trees.{depth, depth_by, type_depth, params_depth, created_depth, deepest}
+use Rattle.java_reading.proofs.Parts.{deepest_more}
+use Rattle.java_reading.proofs.Seen.{length_seen}
 
 layer : (x : JExpr-F JExpr) (y : JExpr) (n : ℕ) → roll-JExpr x ≡ y → depth_by (map-JExpr JExpr ℕ depth x) ≡ n → depth y ≡ n
 unfolding depth
@@ -67,7 +70,28 @@ depth_Conditional x q y c z = layer (JExpr-F.Conditional x q y c z) _ _ (e.rolls
 pub depth_Assign : (x : JExpr) (op : AssignOp) (at : Position) (y : JExpr) → depth (e.Assign x op at y) ≡ suc (max (depth x) (depth y))
 depth_Assign x op at y = layer (JExpr-F.Assign x op at y) _ _ (e.rolls-Assign x op at y) refl
 
-pub depth_Lambda : (ps : JParams) (arrow : Position) (x : JExpr) → depth (e.Lambda ps arrow x) ≡ suc (depth x)
+pub depth_MinusLeast : (minus : Position) (x : JLiteral) (at : Position) → depth (e.MinusLeast minus x at) ≡ 2
+depth_MinusLeast minus x at = layer (JExpr-F.MinusLeast minus x at) _ _ (e.rolls-MinusLeast minus x at) refl
+
+pub depth_Lambda : (ps : JParams) (arrow : Position) (x : JExpr) → depth (e.Lambda ps arrow x) ≡ suc (max (params_depth ps) (depth x))
 depth_Lambda ps arrow x = layer (JExpr-F.Lambda ps arrow x) _ _ (e.rolls-Lambda ps arrow x) refl
 
-pub ruleset parts = (depth_Name, depth_Literal, depth_This, depth_SuperCall, depth_Method, depth_Element, depth_Postfix, depth_Instanceof, length_seen, depth_Paren, depth_Call, depth_Field, depth_Prefix, depth_Cast, depth_Binary, depth_Conditional, depth_Assign, depth_Lambda, deepest_more)
+pub depth_LambdaBlock : (ps : JParams) (arrow : Position) (body : Span) → depth (e.LambdaBlock ps arrow body) ≡ suc (max (params_depth ps) 1)
+depth_LambdaBlock ps arrow body = layer (JExpr-F.LambdaBlock ps arrow body) _ _ (e.rolls-LambdaBlock ps arrow body) refl
+
+pub depth_New : (at : Position) (made : JCreated) (lp : Position) (xs : List JExpr) (ps : List Position) (rp : Position) (body : Option Span)
+    → depth (e.New at made lp xs ps rp body) ≡ suc (max (created_depth made) (deepest (map depth xs)))
+depth_New at made lp xs ps rp body = layer (JExpr-F.New at made lp xs ps rp body) _ _ (e.rolls-New at made lp xs ps rp body) refl
+
+pub depth_NewArray : (at : Position) (of : JType) (lb : Position) (size : JExpr) (rb : Position) (pairs : List JBrackets)
+    → depth (e.NewArray at of lb size rb pairs) ≡ suc (max (type_depth of) (depth size))
+depth_NewArray at of lb size rb pairs = layer (JExpr-F.NewArray at of lb size rb pairs) _ _ (e.rolls-NewArray at of lb size rb pairs) refl
+
+pub depth_NewFilled : (at : Position) (of : JType) (pairs : List JBrackets) (lc : Position) (xs : List JExpr) (ps : List Position) (more : Option Position) (rc : Position)
+    → depth (e.NewFilled at of pairs lc xs ps more rc) ≡ suc (max (type_depth of) (deepest (map depth xs)))
+depth_NewFilled at of pairs lc xs ps more rc = layer (JExpr-F.NewFilled at of pairs lc xs ps more rc) _ _ (e.rolls-NewFilled at of pairs lc xs ps more rc) refl
+
+pub depth_Braces : (lc : Position) (xs : List JExpr) (ps : List Position) (more : Option Position) (rc : Position) → depth (e.Braces lc xs ps more rc) ≡ suc (deepest (map depth xs))
+depth_Braces lc xs ps more rc = layer (JExpr-F.Braces lc xs ps more rc) _ _ (e.rolls-Braces lc xs ps more rc) refl
+
+pub ruleset parts = (depth_Name, depth_Literal, depth_This, depth_SuperCall, depth_Method, depth_Element, depth_Postfix, depth_Instanceof, length_seen, depth_Paren, depth_Call, depth_Field, depth_Prefix, depth_Cast, depth_Binary, depth_Conditional, depth_Assign, depth_Lambda, depth_MinusLeast, depth_LambdaBlock, depth_New, depth_NewArray, depth_NewFilled, depth_Braces, deepest_more)
