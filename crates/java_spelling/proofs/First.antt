@@ -115,7 +115,7 @@ level_pos op.Remainder = omega arith
 not_least : (literal : JLiteral) → is_least literal ≡ false → not (is_least literal) ≡ true
 not_least literal h = rw h refl
 
-layer_first : (d : ℕ) → ((l : ℕ) (x : JExpr) → 1 ≤ l → Stands d l x → First (tokens x)) → (x : JExpr-F JExpr) → 1 ≤ top_by x → stands_by (TypeStands d) (TypedStands d) (Stands d) x
+layer_first : (d : ℕ) → ((l : ℕ) (x : JExpr) → 1 ≤ l → Stands d l x → First (tokens x)) → (x : JExpr-F JExpr) → 1 ≤ top_by x → stands_by d (TypeStands d) (TypedStands d) (Stands d) x
     → First (tokens_by (map-JExpr JExpr Tokens tokens x))
 layer_first d h (JExpr-F.Name n at) g s = here _ _ refl
 layer_first d h (JExpr-F.Literal literal at) g s = here _ _ (not_least literal s)
@@ -169,7 +169,7 @@ starts_begins (Token.CloseBody at body) h = h
 first_begins : (ts : Tokens) → First ts → Begins ts
 first_begins ts f = record { head = f.head; tail = f.tail; is = f.is; begins = starts_begins f.head f.starts }
 
-layer_begins : (d : ℕ) (x : JExpr-F JExpr) → stands_by (TypeStands d) (TypedStands d) (Stands d) x → Begins (tokens_by (map-JExpr JExpr Tokens tokens x))
+layer_begins : (d : ℕ) (x : JExpr-F JExpr) → stands_by d (TypeStands d) (TypedStands d) (Stands d) x → Begins (tokens_by (map-JExpr JExpr Tokens tokens x))
 layer_begins d (JExpr-F.Braces lc inits commas more rc) s = record { head = Token.Sign m.OpenCurly lc; tail = _; is = refl; begins = refl }
 layer_begins d (JExpr-F.Binary left op at right) s = first_begins _ (layer_first d (first d) (JExpr-F.Binary left op at right) (level_pos op) s)
 layer_begins d x s = first_begins _ (layer_first d (first d) x (omega arith) s)
@@ -378,7 +378,7 @@ params_skips d (params.One p) s = then_plain refl none
 params_skips d (params.Several lp ps commas rp) s = opened lp rp _ [] (ident_skips ps commas) none
 params_skips d (params.Typed lp ps commas rp) s = opened lp rp _ [] (typed_skips d ps commas s.1) none
 
-created_skips : (d : ℕ) (x : JCreated) → created_stands (TypeStands d) x → Skips (created_tokens x)
+created_skips : (d : ℕ) (x : JCreated) → created_stands d (TypeStands d) x → Skips (created_tokens x)
 created_skips d (created.Type x) s = type_skips d x s.0
 created_skips d (created.Inferred q lp j close) s = after_both (qualified_skips q) (then_plain refl (then_plain (closing_plain j) none))
 
@@ -394,7 +394,7 @@ module _ (d : ℕ) (h : (l : ℕ) (x : JExpr) → Stands d l x → Skips (tokens
       → Skips (braces_tokens lc (map tokens inits) commas more rc)
   braces_skips lc inits commas more rc all = then_plain refl (after_both (all_skip init_level commas inits all) (after_both (trailing_skips more) (then_plain refl none)))
 
-  layer_skips : (x : JExpr-F JExpr) → stands_by (TypeStands d) (TypedStands d) (Stands d) x → Skips (tokens_by (map-JExpr JExpr Tokens tokens x))
+  layer_skips : (x : JExpr-F JExpr) → stands_by d (TypeStands d) (TypedStands d) (Stands d) x → Skips (tokens_by (map-JExpr JExpr Tokens tokens x))
   layer_skips (JExpr-F.Name x at) s = then_plain refl none
   layer_skips (JExpr-F.Literal x at) s = then_plain refl none
   layer_skips (JExpr-F.This at) s = then_plain refl none
@@ -413,7 +413,7 @@ module _ (d : ℕ) (h : (l : ℕ) (x : JExpr) → Stands d l x → Skips (tokens
   layer_skips (JExpr-F.Conditional left question then_ colon else_) s = after_both (h _ left s.0) (then_plain refl (after_both (h _ then_ s.1) (then_plain refl (h _ else_ s.2))))
   layer_skips (JExpr-F.Assign left op at right) s = after_both (h _ left s.0) (after_both (assign_skips op at) (h _ right s.2))
   layer_skips (JExpr-F.Lambda params arrow body) s = after_both (params_skips d params s.0) (then_plain refl (h _ body s.1))
-  layer_skips (JExpr-F.LambdaBlock params arrow body) s = after_both (params_skips d params s) (then_plain refl none)
+  layer_skips (JExpr-F.LambdaBlock params arrow body) s = after_both (params_skips d params s.0) (then_plain refl none)
   layer_skips (JExpr-F.New at made lp args commas rp body) s = then_plain refl (after_both (created_skips d made s.0) (args_opened lp rp body _ (all_skip any_level commas args s.2)))
   layer_skips (JExpr-F.NewArray at of lb size rb more) s =
       then_plain refl (after_both (type_skips d of s.0) (then_plain refl (after_both (h _ size s.2) (then_plain refl (brackets_skips more)))))
