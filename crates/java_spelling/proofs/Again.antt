@@ -760,7 +760,7 @@ module _ (d : ℕ) (again : Again d) where
   new_filled_again at of (x ∷ xs) lc inits commas more rc rest k a h b all =
       typed_creation at of m.OpenSquare x.opens _ k a (refl, refl) (square_inferred x.opens _)
       ∙ rw (brackets_again xs (Token.Sign m.OpenCurly lc ∷ (listed commas (map tokens inits) ++ (trailing more ++ Token.Sign m.CloseCurly rc ∷ rest))) refl)
-        (filled_again at of (x ∷ xs) lc inits commas more rc rest b all)
+      (filled_again at of (x ∷ xs) lc inits commas more rc rest b all)
 
   three : (a b c e : Tokens) → (a ++ (b ++ c)) ++ e ≡ a ++ (b ++ (c ++ e))
   three a b c e = append_assoc a (b ++ c) e ∙ ap (λ r. a ++ r) (append_assoc b c e)
