@@ -83,7 +83,7 @@ brackets_again (x ∷ xs) rest h = ap (λ (y : List JBrackets × Tokens). (x ∷
 
 -- ---- what is read is spelled so
 
-closes_only : (ts : Tokens) (c : (Bool × Position) × Tokens) → closes ts ≡ Some c → ts ≡ Token.Sign (closing c.0.0) c.0.1 ∷ c.1
+pub closes_only : (ts : Tokens) (c : (Bool × Position) × Tokens) → closes ts ≡ Some c → ts ≡ Token.Sign (closing c.0.0) c.0.1 ∷ c.1
 closes_only (Token.Sign m.Greater at ∷ rest) c e = let same : ((false, at), rest) ≡ c = some_same e in ap (λ (x : (Bool × Position) × Tokens). Token.Sign (closing x.0.0) x.0.1 ∷ x.1) same
 closes_only (Token.Sign m.GreaterJoined at ∷ rest) c e = let same : ((true, at), rest) ≡ c = some_same e in ap (λ (x : (Bool × Position) × Tokens). Token.Sign (closing x.0.0) x.0.1 ∷ x.1) same
 closes_only _ c e = absurd (cc e)
