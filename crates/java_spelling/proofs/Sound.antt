@@ -1,5 +1,5 @@
 -- What is read is spelled so, and stands.
-use Rattle.std.proofs.Common.{◌≡◌, ◌≤◌, ◌+◌, ℕ, zero, suc, max, Bool, true, false, not, ◌&&◌, ◌||◌, ◌++◌, List, [], ◌∷◌, length, map, Option, Some, None, inl, inr, refl, ap, sym, ◌∙◌, subst, append_assoc, arith, nat_lt, nat_le}
+use Rattle.std.proofs.Common.{◌≡◌, ◌≤◌, ◌+◌, ℕ, zero, suc, Bool, true, false, not, ◌&&◌, ◌||◌, ◌++◌, List, [], ◌∷◌, length, map, Option, Some, None, inl, inr, refl, ap, sym, ◌∙◌, subst, append_assoc, arith, nat_lt, nat_le}
 use Rattle.std.specs.List.{AllByRecursion}
 use Rattle.java_tree.specs.declared.tokens.Position.{Position}
 use Rattle.java_tree.specs.declared.tokens.Mark.{Mark}
@@ -24,7 +24,7 @@ use Rattle.java_tree.specs.declared.exprs.JExpr.{JExpr, out-JExpr, roll-JExpr, o
 use Rattle.java_tree.specs.declared.exprs.JExpr.TheVariants as e
 use Rattle.java_tree.specs.declared.exprs.JExpr.TheOpen.{JExpr-F}
 use Rattle.java_tree.specs.Seen.{Tokens}
-use Rattle.java_tree.specs.Trees.{listed, AreBetween, prefix_mark, postfix_mark, operator_tokens, assign_tokens, level, init_level, any_level, else_level, cond_level, or_level, relation_level, unary_level, postfix_level, primary_level, tokens, tokens_by, depth, top, top_by, is_left, is_left_by, is_least, is_sized, is_class, is_array, closing, trailing, args_close, braces_tokens, brackets_tokens, qualified_tokens, created_tokens, created_depth, created_stands, params_depth, typed_tokens, TypedStands, TypeStands, type_tokens, stands_by, Stands, may_cast, begins_sign, param_tokens, params_tokens, params_stand}
+use Rattle.java_tree.specs.Trees.{listed, AreBetween, prefix_mark, postfix_mark, operator_tokens, assign_tokens, level, init_level, any_level, else_level, cond_level, or_level, relation_level, unary_level, postfix_level, primary_level, tokens, tokens_by, depth, top, top_by, is_left, is_left_by, is_least, is_sized, is_class, is_array, closing, trailing, args_close, braces_tokens, brackets_tokens, qualified_tokens, created_tokens, created_depth, created_stands, typed_tokens, TypedStands, TypeStands, type_tokens, stands_by, Stands, may_cast, begins_sign, param_tokens, params_tokens, params_stand}
 use Rattle.java_reading.specs.Reading as r
 use Rattle.java_reading.specs.Reading.{Reader, ◌>>=◌, maybe}
 use Rattle.java_reading.specs.declared.suffix.Suffix.{Suffix}

@@ -200,7 +200,7 @@ typed_by_sound d is_final ts x e =
     let P : JTypedParam × Tokens → Type 0 = λ x. (final_tokens is_final ++ ts ≡ typed_tokens x.0 ++ x.1) × TypedStands (suc d) x.0 in
     subst P (some_same n.2) (
       ap (λ r. final_tokens is_final ++ r) (k.0 ∙ ap (λ r. type_tokens a.0.0 ++ r) (ident_only a.0.1 n.0 n.1) ∙ sym (append_assoc (type_tokens a.0.0) (param_tokens n.0.0) n.0.1))
-      ∙ sym (append_assoc (final_tokens is_final) (type_tokens a.0.0 ++ param_tokens n.0.0) n.0.1),
+          ∙ sym (append_assoc (final_tokens is_final) (type_tokens a.0.0 ++ param_tokens n.0.0) n.0.1),
       k.1,
     )
 
@@ -274,11 +274,13 @@ base_layer_again d (JType-F.Class x) r s h rest q =
     (rw (tokens_Class x) (name_again (type_read d) x rest _ q.0 (class_again (type_read d) x rest q.1)))
 base_layer_again d (JType-F.Applied x lp args commas is_joined close) r s h rest q =
     subst (λ (z : JType). base_step (type_read d) (type_tokens z ++ rest) ≡ Some (z, rest)) (sym (ty.rolls-Applied x lp args commas is_joined close))
-    (rw (tokens_Applied x lp args commas is_joined close,
-        append_assoc (qualified_tokens x) (Token.Sign m.Less lp ∷ (listed commas (map type_tokens args) ++ Token.Sign (closing is_joined) close ∷ [])) rest,
-        append_assoc (listed commas (map type_tokens args)) (Token.Sign (closing is_joined) close ∷ []) rest)
+    (rw (
+      tokens_Applied x lp args commas is_joined close,
+      append_assoc (qualified_tokens x) (Token.Sign m.Less lp ∷ (listed commas (map type_tokens args) ++ Token.Sign (closing is_joined) close ∷ [])) rest,
+      append_assoc (listed commas (map type_tokens args)) (Token.Sign (closing is_joined) close ∷ []) rest,
+    )
     (name_again (type_read d) x (Token.Sign m.Less lp ∷ (listed commas (map type_tokens args) ++ Token.Sign (closing is_joined) close ∷ rest)) _ refl
-        (applied_again d x lp args commas is_joined close rest r s.0 s.1 s.2)))
+    (applied_again d x lp args commas is_joined close rest r s.0 s.1 s.2)))
 base_layer_again d (JType-F.Array element pairs) r s h rest q = absurd (cc h)
 
 base_step_again : (d : ℕ) (x : JType) → ((x : JType) → TypeStands d x → Again d x) → TypeStands (suc d) x → is_array x ≡ false
@@ -313,8 +315,8 @@ layer_again d (JType-F.Array element pairs) r s rest q =
     subst (λ (z : JType). type_read (suc d) (type_tokens z ++ rest) ≡ Some (z, rest)) (sym (ty.rolls-Array element pairs))
     (rw (tokens_Array element pairs, append_assoc (type_tokens element) (brackets_tokens pairs) rest)
     (then_array d element (type_tokens element ++ (brackets_tokens pairs ++ rest)) (brackets_tokens pairs ++ rest) rest pairs
-        (base_step_again d element r (type_resize d (suc d) element s.2 (omega arith)) s.1 (brackets_tokens pairs ++ rest) (pairs_end pairs rest s.0))
-        (brackets_again pairs rest q.2)
+    (base_step_again d element r (type_resize d (suc d) element s.2 (omega arith)) s.1 (brackets_tokens pairs ++ rest) (pairs_end pairs rest s.0))
+    (brackets_again pairs rest q.2)
     ∙ array_is d element pairs rest s.0 fits))
 
 pub type_again : (d : ℕ) (x : JType) → TypeStands d x → Again d x
