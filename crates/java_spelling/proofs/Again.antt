@@ -44,7 +44,7 @@ use Rattle.java_spelling.proofs.Lists.{inner_takes}
 use Rattle.java_reading.proofs.TypeTexts.{tokens_Primitive}
 use Rattle.java_spelling.proofs.TypeLaws.{type_again, base_again, typed_again, qualified_again, brackets_again, closes_again, begins_less, begins_member, begins_pair, EndsBase, EndsType}
 use Rattle.java_spelling.proofs.Trees.{spelled, deep, deep_out, top_roll, within, resize, layer_resize, all_resized, type_resize, at_level, level_is}
-use Rattle.java_spelling.proofs.First.{First, first, starts, Begins, begins, begins_any, Named, names, longer, typed_named, any, sign_same, operand_first, primitive_first, skips, type_skips, ident_skips, typed_skips, names_begin, typed_begin, goes_inferred, inferred_begins, type_inferred}
+use Rattle.java_spelling.proofs.First.{First, further, first, starts, Begins, begins, begins_any, Named, names, longer, typed_named, any, sign_same, operand_first, primitive_first, skips, type_skips, ident_skips, typed_skips, names_begin, typed_begin, goes_inferred, inferred_begins, type_inferred}
 use Rattle.java_spelling.proofs.Sound.{suffix_tokens}
 
 -- ---- how strongly the next token goes on with what stands before it
@@ -493,9 +493,6 @@ module _ (d : ℕ) (again : Again d) where
   unfolding r.suffix
   commas_lower at rest = omega arith
 
-  more_first : (a b : Tokens) → First a → First (a ++ b)
-  more_first a b f = record { head = f.head; tail = f.tail ++ b; is = ap (λ r. r ++ b) f.is; starts = f.starts }
-
   -- a part that a mark ends
   part : (l : ℕ) (x : JExpr) → Stands d l x → (rest : Tokens) → after rest ≡ 0 → sub l (tokens x ++ rest) ≡ Some (x, rest)
   part l x s rest e = again l x s rest (omega arith) (omega (arith, bound_pos x))
@@ -605,7 +602,7 @@ module _ (d : ℕ) (again : Again d) where
   unfolding r.args_from
   args_again [] commas rp body rest b all = rw (b, args_end_again rp body rest) refl
   args_again (x ∷ xs) commas rp body rest b all =
-      rw (starts_no_end (listed commas (map tokens (x ∷ xs)) ++ args_close rp body ∷ rest) (more_first _ _ (more_first _ _ (first d any_level x (omega arith) all.0))))
+      rw (starts_no_end (listed commas (map tokens (x ∷ xs)) ++ args_close rp body ∷ rest) (further _ _ (further _ _ (first d any_level x (omega arith) all.0))))
       (lists.by_again JExpr tokens (Stands d any_level) (λ rest. after rest < 2) commas_low r.comma (sub any_level) (λ x s at rest. refl)
       (λ x s rest q. again any_level x s rest q (omega (arith, bound_pos x))) x xs commas (args_close rp body ∷ rest) b all (omega (arith, args_end_after rp body rest)) (args_end_comma rp body rest))
 
@@ -664,7 +661,7 @@ module _ (d : ℕ) (again : Again d) where
   prefix_again : (op : PrefixOp) (at : Position) (inner : JExpr) (rest : Tokens) → Stands d unary_level inner → after rest < 28
       → r.marked types base typed sub (prefix_mark op) at (tokens inner ++ rest) ≡ Some (e.Prefix op at inner, rest)
   prefix_again prefix.Plus at inner rest s h = prefixed_again prefix.Plus at inner rest s h
-  prefix_again prefix.Minus at inner rest s h = minus_plain at (tokens inner ++ rest) (more_first _ _ (first d unary_level inner (omega arith) s)) ∙ prefixed_again prefix.Minus at inner rest s h
+  prefix_again prefix.Minus at inner rest s h = minus_plain at (tokens inner ++ rest) (further _ _ (first d unary_level inner (omega arith) s)) ∙ prefixed_again prefix.Minus at inner rest s h
   prefix_again prefix.Increment at inner rest s h = prefixed_again prefix.Increment at inner rest s h
   prefix_again prefix.Decrement at inner rest s h = prefixed_again prefix.Decrement at inner rest s h
   prefix_again prefix.Complement at inner rest s h = prefixed_again prefix.Complement at inner rest s h
@@ -735,7 +732,7 @@ module _ (d : ℕ) (again : Again d) where
       → r.creation types base typed sub at (type_tokens of ++ Token.Sign m.OpenSquare lb ∷ (tokens size ++ Token.Sign m.CloseSquare rb ∷ (brackets_tokens more ++ rest))) ≡ Some (e.NewArray at of lb size rb more, rest)
   new_array_again at of lb size rb more rest k a s h =
       typed_creation at of m.OpenSquare lb _ k a (refl, refl) (square_inferred lb _)
-      ∙ array_sized at of lb _ (more_first _ _ (first d any_level size (omega arith) s)) ∙ sized_again at of lb size rb more rest s h
+      ∙ array_sized at of lb _ (further _ _ (first d any_level size (omega arith) s)) ∙ sized_again at of lb size rb more rest s h
 
   -- the values in braces, behind the `{`
   values_again : (commas : List Position) (inits : List JExpr) (more : Option Position) (rc : Position) (rest : Tokens) → (listed commas (map tokens inits) ++ (trailing more ++ Token.Sign m.CloseCurly rc ∷ [])) ++ rest ≡ listed commas (map tokens inits) ++ (trailing more ++ Token.Sign m.CloseCurly rc ∷ rest)

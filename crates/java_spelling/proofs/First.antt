@@ -75,7 +75,7 @@ pub record First (ts : Tokens) : Type 0 where
 here : (x : Token) (ts : Tokens) → starts x ≡ true → First (x ∷ ts)
 here x ts h = record { head = x; tail = ts; is = refl; starts = h }
 
-further : (a b : Tokens) → First a → First (a ++ b)
+pub further : (a b : Tokens) → First a → First (a ++ b)
 further a b f = record { head = f.head; tail = f.tail ++ b; is = ap (λ r. r ++ b) f.is; starts = f.starts }
 
 prefix_starts : (op : PrefixOp) → starts_mark (prefix_mark op) ≡ true
