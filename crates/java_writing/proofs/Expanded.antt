@@ -5,6 +5,7 @@ use Rattle.java_tree.specs.declared.tokens.Position.{Position}
 use Rattle.java_tree.specs.declared.tokens.Mark.{Mark}
 use Rattle.java_tree.specs.declared.tokens.Mark.TheVariants as m
 use Rattle.java_tree.specs.declared.tokens.Keyword.{Keyword}
+use Rattle.java_tree.specs.declared.tokens.Keyword.TheVariants as w
 use Rattle.java_tree.specs.declared.tokens.JToken.{JToken}
 use Rattle.java_tree.specs.declared.exprs.JLiteral.{JLiteral}
 use Rattle.java_tree.specs.declared.exprs.Span.{Span}
@@ -24,8 +25,10 @@ use Rattle.java_tree.specs.declared.types.JBrackets.{JBrackets}
 use Rattle.java_tree.specs.declared.types.JType.{JType, out-JType, map-JType, fold_out-JType}
 use Rattle.java_tree.specs.declared.types.JType.TheOpen.{JType-F}
 use Rattle.java_tree.specs.declared.exprs.JExpr.{JExpr}
+use Rattle.java_tree.specs.declared.exprs.JExpr.TheVariants as e
 use Rattle.java_tree.specs.Seen.{Token, Tokens, expanded, token_tokens, body_tokens, token_seen, seen}
-use Rattle.java_tree.specs.Trees.{more_tokens, listed, deepest, qualified_tokens, dotted_tokens, brackets_tokens, type_tokens, type_tokens_by, type_depth, type_depth_by, operator_tokens, assign_tokens, param_tokens, typed_tokens, final_tokens, params_tokens, created_tokens, trailing, tokens}
+use Rattle.java_tree.specs.Trees.{more_tokens, listed, deepest, qualified_tokens, dotted_tokens, brackets_tokens, type_tokens, type_tokens_by, type_depth, type_depth_by, operator_tokens, assign_tokens, param_tokens, typed_tokens, final_tokens, params_tokens, created_tokens, trailing, braces_tokens, tokens}
+use Rattle.java_reading.proofs.ExprTexts.{tokens_NewFilled}
 use Rattle.java_writing.specs.Forms.{spelled}
 
 pub expanded_none : (file : Tokens) → expanded file [] ≡ []
@@ -200,6 +203,13 @@ pub listed_spelled : (file : Tokens) (commas : List Position) (xs : List JExpr) 
 listed_spelled file commas [] = simp steps
 listed_spelled file commas (x ∷ xs) = simp (steps, more_spelled file commas xs)
 
+pub filled_spelled : (file : Tokens) (at : Position) (of : JType) (pairs : List JBrackets) (lc : Position) (xs : List JExpr) (ps : List Position) (more : Option Position) (rc : Position)
+    → expanded file (tokens (e.NewFilled at of pairs lc xs ps more rc))
+    ≡ Token.Word w.New at ∷ (type_tokens of ++ (brackets_tokens pairs ++ braces_tokens lc (map (spelled file) xs) ps more rc))
+filled_spelled file at of pairs lc xs ps more rc =
+    ap (expanded file) (tokens_NewFilled at of pairs lc xs ps more rc)
+    ∙ simp (steps, type_plain, brackets_plain, trailing_plain, listed_spelled)
+
 -- ---- copies
 
 pub seen_part : (n from : ℕ) (file : List JToken) → seen (take n (drop from file)) ≡ take n (drop from (seen file))
@@ -210,4 +220,4 @@ pub seen_first : (x : JToken) (xs : List JToken) → seen (x ∷ xs) ≡ token_s
 unfolding seen
 seen_first x xs = refl
 
-pub ruleset expansions = (expanded_none, expanded_joins, expanded_Sign, expanded_Word, expanded_Id, expanded_Literal, expanded_ArrowBody, expanded_CloseBody, brackets_plain, operator_plain, assign_plain, trailing_plain, type_plain, created_plain, params_plain, listed_spelled, seen_part, seen_first)
+pub ruleset expansions = (expanded_none, expanded_joins, expanded_Sign, expanded_Word, expanded_Id, expanded_Literal, expanded_ArrowBody, expanded_CloseBody, brackets_plain, operator_plain, assign_plain, trailing_plain, type_plain, created_plain, params_plain, listed_spelled, filled_spelled, seen_part, seen_first)

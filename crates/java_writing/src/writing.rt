@@ -459,9 +459,17 @@ fn put_copies(alloc: Global, out: &mut Vec<JToken>, tokens: &[JToken]) -> Result
 fn part(file: &[JToken], from: usize, to: usize) -> &[JToken]
     ensures { result.now ≡ take (to - from) (drop from file.now) }
 {
-    let rest = if from < file.len() { &file[from..] } else { &[] };
+    let rest = if from < file.len() {
+        &file[from..]
+    } else {
+        &[]
+    };
     let count = to.saturating_sub(from);
-    if count < rest.len() { &rest[..count] } else { rest }
+    if count < rest.len() {
+        &rest[..count]
+    } else {
+        rest
+    }
 }
 
 /// A body with its braces.
@@ -528,6 +536,20 @@ fn put_new(out: &mut Vec<JToken>, at: Position) -> Result<(), NoMemory>
     put_keyword(out, Keyword::New, at)
 }
 
+/// `new` and the type of the elements of an array.
+#[tactic(auto, using(crate::proofs::SpellParts::joins))]
+fn put_element(
+    alloc: Global,
+    out: &mut Vec<JToken>,
+    at: Position,
+    element: &JType,
+) -> Result<(), NoMemory>
+    ensures { IfOk result (λ u. seen out.new.items ≡ seen out.old.items ++ Token.Word w.New at ∷ s.type_tokens element.now) }
+{
+    put_new(out, at)?;
+    put_type(alloc, out, element)
+}
+
 #[cycle(spell_exprs)]
 #[tactic(auto, using(crate::proofs::SpellParts::joins))]
 fn put_expr(
@@ -549,9 +571,19 @@ fn put_expr(
         }
         JExpr::Call(name, at, lp, items, commas, rp) => {
             put_word(alloc, out, name, *at)?;
-            put_args(alloc, out, file, *lp, items.as_slice(), commas.as_slice(), *rp)
+            put_args(
+                alloc,
+                out,
+                file,
+                *lp,
+                items.as_slice(),
+                commas.as_slice(),
+                *rp,
+            )
         }
-        JExpr::Prefix(..) | JExpr::MinusLeast(..) | JExpr::Cast(..) => put_prefixed(alloc, out, file, x),
+        JExpr::Prefix(..) | JExpr::MinusLeast(..) | JExpr::Cast(..) => put_prefixed(
+            alloc, out, file, x,
+        ),
         JExpr::Binary(..) | JExpr::Instanceof(..) | JExpr::Conditional(..) | JExpr::Assign(..) => {
             put_joined(alloc, out, file, x)
         }
@@ -608,7 +640,15 @@ fn put_access(
         JExpr::SuperCall(above, dot, name, at, lp, items, commas, rp) => {
             put_keyword(out, Keyword::Super, *above)?;
             put_member(alloc, out, *dot, name, *at)?;
-            put_args(alloc, out, file, *lp, items.as_slice(), commas.as_slice(), *rp)
+            put_args(
+                alloc,
+                out,
+                file,
+                *lp,
+                items.as_slice(),
+                commas.as_slice(),
+                *rp,
+            )
         }
         JExpr::Field(left, dot, name, at) => {
             put_expr(alloc, out, file, left.get())?;
@@ -617,7 +657,15 @@ fn put_access(
         JExpr::Method(left, dot, name, at, lp, items, commas, rp) => {
             put_expr(alloc, out, file, left.get())?;
             put_member(alloc, out, *dot, name, *at)?;
-            put_args(alloc, out, file, *lp, items.as_slice(), commas.as_slice(), *rp)
+            put_args(
+                alloc,
+                out,
+                file,
+                *lp,
+                items.as_slice(),
+                commas.as_slice(),
+                *rp,
+            )
         }
         JExpr::Element(left, lp, index, rp) => {
             put_expr(alloc, out, file, left.get())?;
@@ -716,21 +764,37 @@ fn put_made(
             put_close(alloc, out, file, *rp, *body)
         }
         JExpr::NewArray(at, element, lb, size, rb, pairs) => {
-            put_new(out, *at)?;
-            put_type(alloc, out, element)?;
+            put_element(alloc, out, *at, element)?;
             put(out, Mark::OpenSquare, *lb)?;
             put_expr(alloc, out, file, size.get())?;
             put(out, Mark::CloseSquare, *rb)?;
             put_brackets(out, pairs.as_slice())
         }
         JExpr::NewFilled(at, element, pairs, lc, items, commas, more, rc) => {
-            put_new(out, *at)?;
-            put_type(alloc, out, element)?;
+            put_element(alloc, out, *at, element)?;
             put_brackets(out, pairs.as_slice())?;
-            put_braces(alloc, out, file, *lc, items.as_slice(), commas.as_slice(), *more, *rc)
+            put_braces(
+                alloc,
+                out,
+                file,
+                *lc,
+                items.as_slice(),
+                commas.as_slice(),
+                *more,
+                *rc,
+            )
         }
         JExpr::Braces(lc, items, commas, more, rc) => {
-            put_braces(alloc, out, file, *lc, items.as_slice(), commas.as_slice(), *more, *rc)
+            put_braces(
+                alloc,
+                out,
+                file,
+                *lc,
+                items.as_slice(),
+                commas.as_slice(),
+                *more,
+                *rc,
+            )
         }
         _ => Ok(()),
     }
