@@ -14,6 +14,7 @@ use java_tree::{
     JToken, JType, JTypedParam, Keyword, Mark, Position, PostfixOp, PrefixOp, Primitive, Span,
     TokenKind,
 };
+use sqlite_items::Items;
 use std::alloc::Global;
 
 fn copied(alloc: Global, name: &Name) -> Result<Name, NoMemory>
@@ -571,15 +572,7 @@ fn put_expr(
         }
         JExpr::Call(name, at, lp, items, commas, rp) => {
             put_word(alloc, out, name, *at)?;
-            put_args(
-                alloc,
-                out,
-                file,
-                *lp,
-                items.as_slice(),
-                commas.as_slice(),
-                *rp,
-            )
+            put_args(alloc, out, file, *lp, items, commas, *rp)
         }
         JExpr::Prefix(..) | JExpr::MinusLeast(..) | JExpr::Cast(..) => put_prefixed(
             alloc, out, file, x,
@@ -595,7 +588,7 @@ fn put_expr(
     }
 }
 
-/// An operator or a type before its operand.
+/// An operator or a type before its operand, and nothing for another form.
 #[cycle(spell_exprs)]
 #[tactic(auto, using(crate::proofs::SpellParts::joins))]
 fn put_prefixed(
@@ -625,7 +618,7 @@ fn put_prefixed(
     }
 }
 
-/// A member, an element, or an operator behind its operand.
+/// A member, an element, or an operator behind its operand, and nothing for another form.
 #[cycle(spell_exprs)]
 #[tactic(auto, using(crate::proofs::SpellParts::joins))]
 fn put_access(
@@ -640,15 +633,7 @@ fn put_access(
         JExpr::SuperCall(above, dot, name, at, lp, items, commas, rp) => {
             put_keyword(out, Keyword::Super, *above)?;
             put_member(alloc, out, *dot, name, *at)?;
-            put_args(
-                alloc,
-                out,
-                file,
-                *lp,
-                items.as_slice(),
-                commas.as_slice(),
-                *rp,
-            )
+            put_args(alloc, out, file, *lp, items, commas, *rp)
         }
         JExpr::Field(left, dot, name, at) => {
             put_expr(alloc, out, file, left.get())?;
@@ -657,15 +642,7 @@ fn put_access(
         JExpr::Method(left, dot, name, at, lp, items, commas, rp) => {
             put_expr(alloc, out, file, left.get())?;
             put_member(alloc, out, *dot, name, *at)?;
-            put_args(
-                alloc,
-                out,
-                file,
-                *lp,
-                items.as_slice(),
-                commas.as_slice(),
-                *rp,
-            )
+            put_args(alloc, out, file, *lp, items, commas, *rp)
         }
         JExpr::Element(left, lp, index, rp) => {
             put_expr(alloc, out, file, left.get())?;
@@ -681,7 +658,7 @@ fn put_access(
     }
 }
 
-/// An operator between its operands.
+/// An operator between its operands, and nothing for another form.
 #[cycle(spell_exprs)]
 #[tactic(auto, using(crate::proofs::SpellParts::joins))]
 fn put_joined(
@@ -719,6 +696,7 @@ fn put_joined(
     }
 }
 
+/// A lambda, and nothing for another form.
 #[cycle(spell_exprs)]
 #[tactic(auto, using(crate::proofs::SpellParts::joins))]
 fn put_lambda(
@@ -744,7 +722,7 @@ fn put_lambda(
     }
 }
 
-/// An object or an array that is created, or the values of an array.
+/// An object or an array that is created, or the values of an array, and nothing for another form.
 #[cycle(spell_exprs)]
 #[tactic(auto, using(crate::proofs::SpellParts::joins))]
 fn put_made(
@@ -773,28 +751,10 @@ fn put_made(
         JExpr::NewFilled(at, element, pairs, lc, items, commas, more, rc) => {
             put_element(alloc, out, *at, element)?;
             put_brackets(out, pairs.as_slice())?;
-            put_braces(
-                alloc,
-                out,
-                file,
-                *lc,
-                items.as_slice(),
-                commas.as_slice(),
-                *more,
-                *rc,
-            )
+            put_braces(alloc, out, file, *lc, items, commas, *more, *rc)
         }
         JExpr::Braces(lc, items, commas, more, rc) => {
-            put_braces(
-                alloc,
-                out,
-                file,
-                *lc,
-                items.as_slice(),
-                commas.as_slice(),
-                *more,
-                *rc,
-            )
+            put_braces(alloc, out, file, *lc, items, commas, *more, *rc)
         }
         _ => Ok(()),
     }
@@ -808,14 +768,14 @@ fn put_args(
     out: &mut Vec<JToken>,
     file: &[JToken],
     lp: Position,
-    items: &[JExpr],
-    commas: &[Position],
+    items: &Items<JExpr>,
+    commas: &Items<Position>,
     rp: Position,
 ) -> Result<(), NoMemory>
     ensures { IfOk result (λ u. seen out.new.items ≡ seen out.old.items ++ Token.Sign m.OpenRound lp ∷ (s.listed commas.now (map (spelled (seen file.now)) items.now) ++ Token.Sign m.CloseRound rp ∷ [])) }
 {
     put(out, Mark::OpenRound, lp)?;
-    put_list(alloc, out, file, items, commas)?;
+    put_list(alloc, out, file, items.as_slice(), commas.as_slice())?;
     put(out, Mark::CloseRound, rp)
 }
 
@@ -827,15 +787,15 @@ fn put_braces(
     out: &mut Vec<JToken>,
     file: &[JToken],
     lc: Position,
-    items: &[JExpr],
-    commas: &[Position],
+    items: &Items<JExpr>,
+    commas: &Items<Position>,
     more: Option<Position>,
     rc: Position,
 ) -> Result<(), NoMemory>
     ensures { IfOk result (λ u. seen out.new.items ≡ seen out.old.items ++ s.braces_tokens lc (map (spelled (seen file.now)) items.now) commas.now more rc) }
 {
     put(out, Mark::OpenCurly, lc)?;
-    put_list(alloc, out, file, items, commas)?;
+    put_list(alloc, out, file, items.as_slice(), commas.as_slice())?;
     put_trailing(out, more)?;
     put(out, Mark::CloseCurly, rc)
 }
@@ -883,7 +843,8 @@ fn put_others(
     Ok(())
 }
 
-/// The tokens of a tree, from the first to the last, where those of its bodies stand in the file.
+/// The tokens of a tree, from the first to the last. Those of its bodies are copied from the file,
+/// in which they are counted from 0.
 #[tactic(auto, using(crate::proofs::SpellParts::joins))]
 pub fn spell(alloc: Global, file: &[JToken], x: &JExpr) -> Result<Vec<JToken>, NoMemory>
     ensures { IfOk result (λ v. seen v.items ≡ expanded (seen file.now) (s.tokens x.now)) }
