@@ -582,7 +582,7 @@ module _ (types base : Reader JType) (typed : Reader JTypedParam) (sub : ℕ →
   climb d least (suc n) left ts = maybe (suffix ts) (Some (left, ts)) (λ s. grown d least left ts s (λ x. climb d least n x.0 x.1))
 
   unfoldable pub level_read : ℕ → ℕ → Reader JExpr
-  level_read d least ts = operand ts >>= λ x. (if nat_le least (top x.0) then climb d least (d + 1) x.0 x.1 else None)
+  level_read d least ts = operand ts >>= λ x. (if nat_le least (top x.0) && nat_le (depth x.0) (d + 1) then climb d least (d + 1) x.0 x.1 else None)
 
 -- an expression that stands at the level, with a depth of at most the first number
 unfoldable pub read : ℕ → ℕ → Reader JExpr

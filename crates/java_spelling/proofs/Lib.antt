@@ -1,6 +1,6 @@
 pub mod Lists
-pub mod TypeLaws
 pub mod Trees
+pub mod TypeLaws
 pub mod First
 pub mod Sound
 pub mod Again

@@ -420,41 +420,42 @@ params_stand R (params.One p) = Unit {0}
 params_stand R (params.Several lp ps commas rp) = (1 ≤ length ps) × AreBetween commas ps
 params_stand R (params.Typed lp ps commas rp) = AreBetween commas ps × AllByRecursion R ps
 
-abbrev pub created_stands : (JType → Type 0) → JCreated → Type 0
-created_stands Q (created.Type x) = Q x × (is_class x ≡ true)
-created_stands Q (created.Inferred q lp is_joined close) = Unit {0}
+abbrev pub created_stands : ℕ → (JType → Type 0) → JCreated → Type 0
+created_stands d Q (created.Type x) = Q x × (is_class x ≡ true)
+created_stands d Q (created.Inferred q lp is_joined close) = 1 ≤ d
 
 -- Each operand stands at its level: `P l` says that of an operand at the level l, Q of a type, and R of a parameter with its type.
-abbrev pub stands_by : (JType → Type 0) → (JTypedParam → Type 0) → (ℕ → JExpr → Type 0) → JExpr-F JExpr → Type 0
-stands_by Q R P (JExpr-F.Name n at) = Unit {0}
-stands_by Q R P (JExpr-F.Literal literal at) = is_least literal ≡ false
-stands_by Q R P (JExpr-F.This at) = Unit {0}
-stands_by Q R P (JExpr-F.Paren lp inner rp) = P any_level inner
-stands_by Q R P (JExpr-F.Call n at lp args commas rp) = AreBetween commas args × AllByRecursion (P any_level) args
-stands_by Q R P (JExpr-F.SuperCall above dot n at lp args commas rp) = AreBetween commas args × AllByRecursion (P any_level) args
-stands_by Q R P (JExpr-F.Field left dot n at) = P primary_level left
-stands_by Q R P (JExpr-F.Method left dot n at lp args commas rp) = P primary_level left × AreBetween commas args × AllByRecursion (P any_level) args
-stands_by Q R P (JExpr-F.Element left lp index rp) = P primary_level left × (is_sized left ≡ false) × P any_level index
-stands_by Q R P (JExpr-F.Postfix left op at) = P postfix_level left
-stands_by Q R P (JExpr-F.Prefix op at inner) = P unary_level inner
-stands_by Q R P (JExpr-F.Cast lp to rp inner) = Q to × P unary_level inner × may_cast (is_primitive to) (tokens inner)
-stands_by Q R P (JExpr-F.Binary left op at right) = P (level op) left × P ((level op + 1)) right × (may_compare op (is_test left) ≡ true)
-stands_by Q R P (JExpr-F.Instanceof left at to) = P relation_level left × Q to
-stands_by Q R P (JExpr-F.Conditional left question then_ colon else_) = P or_level left × P any_level then_ × P else_level else_
-stands_by Q R P (JExpr-F.Assign left op at right) = P primary_level left × (is_left left ≡ true) × P any_level right
-stands_by Q R P (JExpr-F.MinusLeast minus literal at) = is_least literal ≡ true
-stands_by Q R P (JExpr-F.Lambda params arrow body) = params_stand R params × P any_level body
-stands_by Q R P (JExpr-F.LambdaBlock params arrow body) = params_stand R params
-stands_by Q R P (JExpr-F.New at made lp args commas rp body) = created_stands Q made × AreBetween commas args × AllByRecursion (P any_level) args
-stands_by Q R P (JExpr-F.NewArray at of lb size rb more) = Q of × (is_array of ≡ false) × P any_level size
-stands_by Q R P (JExpr-F.NewFilled at of brackets lc inits commas more rc) =
+-- The parts may be d deep.
+abbrev pub stands_by : ℕ → (JType → Type 0) → (JTypedParam → Type 0) → (ℕ → JExpr → Type 0) → JExpr-F JExpr → Type 0
+stands_by d Q R P (JExpr-F.Name n at) = Unit {0}
+stands_by d Q R P (JExpr-F.Literal literal at) = is_least literal ≡ false
+stands_by d Q R P (JExpr-F.This at) = Unit {0}
+stands_by d Q R P (JExpr-F.Paren lp inner rp) = P any_level inner
+stands_by d Q R P (JExpr-F.Call n at lp args commas rp) = AreBetween commas args × AllByRecursion (P any_level) args
+stands_by d Q R P (JExpr-F.SuperCall above dot n at lp args commas rp) = AreBetween commas args × AllByRecursion (P any_level) args
+stands_by d Q R P (JExpr-F.Field left dot n at) = P primary_level left
+stands_by d Q R P (JExpr-F.Method left dot n at lp args commas rp) = P primary_level left × AreBetween commas args × AllByRecursion (P any_level) args
+stands_by d Q R P (JExpr-F.Element left lp index rp) = P primary_level left × (is_sized left ≡ false) × P any_level index
+stands_by d Q R P (JExpr-F.Postfix left op at) = P postfix_level left
+stands_by d Q R P (JExpr-F.Prefix op at inner) = P unary_level inner
+stands_by d Q R P (JExpr-F.Cast lp to rp inner) = Q to × P unary_level inner × may_cast (is_primitive to) (tokens inner)
+stands_by d Q R P (JExpr-F.Binary left op at right) = P (level op) left × P ((level op + 1)) right × (may_compare op (is_test left) ≡ true)
+stands_by d Q R P (JExpr-F.Instanceof left at to) = P relation_level left × Q to
+stands_by d Q R P (JExpr-F.Conditional left question then_ colon else_) = P or_level left × P any_level then_ × P else_level else_
+stands_by d Q R P (JExpr-F.Assign left op at right) = P primary_level left × (is_left left ≡ true) × P any_level right
+stands_by d Q R P (JExpr-F.MinusLeast minus literal at) = (is_least literal ≡ true) × (1 ≤ d)
+stands_by d Q R P (JExpr-F.Lambda params arrow body) = params_stand R params × P any_level body
+stands_by d Q R P (JExpr-F.LambdaBlock params arrow body) = params_stand R params × (1 ≤ d)
+stands_by d Q R P (JExpr-F.New at made lp args commas rp body) = created_stands d Q made × AreBetween commas args × AllByRecursion (P any_level) args
+stands_by d Q R P (JExpr-F.NewArray at of lb size rb more) = Q of × (is_array of ≡ false) × P any_level size
+stands_by d Q R P (JExpr-F.NewFilled at of brackets lc inits commas more rc) =
     Q of × (is_array of ≡ false) × (1 ≤ length brackets) × AreBetween commas inits × AllByRecursion (P init_level) inits
-stands_by Q R P (JExpr-F.Braces lc inits commas more rc) = AreBetween commas inits × AllByRecursion (P init_level) inits
+stands_by d Q R P (JExpr-F.Braces lc inits commas more rc) = AreBetween commas inits × AllByRecursion (P init_level) inits
 
 -- It stands at the level, with a depth of at most the first number.
 unfoldable pub Stands : ℕ → ℕ → JExpr → Type 0
 Stands zero l e = ⊥
-Stands (suc d) l e = (l ≤ top e) × stands_by (TypeStands d) (TypedStands d) (Stands d) (out-JExpr e)
+Stands (suc d) l e = (l ≤ top e) × stands_by d (TypeStands d) (TypedStands d) (Stands d) (out-JExpr e)
 
 abbrev pub max_depth : ℕ
 max_depth = 200
