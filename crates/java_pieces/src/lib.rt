@@ -3,6 +3,7 @@
 
 mod bodies;
 mod head;
+mod laws;
 mod piece;
 
 pub use bodies::pieces;
@@ -10,4 +11,5 @@ pub use head::{
     Head, arrow, braces_end, close, close_square, colon, comma, copied, copied_literal, dot, first,
     inner_comma, open_curly, open_round,
 };
+pub use laws::nothing_lost;
 pub use piece::{Piece, Pieces};
