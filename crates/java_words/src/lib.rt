@@ -5,3 +5,6 @@ pub mod laws;
 mod words;
 
 pub use words::{WordKind, word_kind};
+
+#[cfg(test)]
+mod tests;

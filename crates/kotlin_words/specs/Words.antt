@@ -24,6 +24,6 @@ reserved_names =
     codes "booleanArrayOf" ∷ codes "byteArrayOf" ∷ codes "charArrayOf" ∷ codes "equals" ∷ codes "hashCode" ∷ codes "intArrayOf" ∷
     codes "longArrayOf" ∷ codes "print" ∷ codes "println" ∷ codes "run" ∷ codes "shortArrayOf" ∷ codes "toString" ∷ []
 
--- the word is one of these
-abbrev pub is_among : List (List ℕ) → List ℕ → Bool
-is_among words word = list_any (bytes_eq word) words
+-- the word is one of the words
+abbrev pub contains_word : List (List ℕ) → List ℕ → Bool
+contains_word words word = list_any (bytes_eq word) words

@@ -2,7 +2,7 @@
 
 ghost use Rattle.std.specs.Prelude.{◌≡◌, IsTrue, map};
 ghost use Rattle.j2k_base.specs.Keys.{keys_differ};
-ghost use Rattle.kotlin_words.specs.Words.{word_of, hard_keywords, reserved_names, is_among};
+ghost use Rattle.kotlin_words.specs.Words.{word_of, hard_keywords, reserved_names, contains_word};
 
 use j2k_base::{Row, Table};
 
@@ -86,7 +86,7 @@ static RESERVED_NAMES: [Row<()>; 34] = [
 
 /// Whether Kotlin takes the word for a name only in backticks. It takes no memory.
 pub fn is_hard_keyword(word: &[u8]) -> bool
-    ensures { result ≡ is_among hard_keywords word.now }
+    ensures { result ≡ contains_word hard_keywords word.now }
 {
     has_row(hard_keyword_rows(), word)
 }
@@ -95,7 +95,7 @@ pub fn is_hard_keyword(word: &[u8]) -> bool
 ///
 /// The simple names of the library's classes are apart from these.
 pub fn is_reserved_name(name: &[u8]) -> bool
-    ensures { result ≡ is_among reserved_names name.now }
+    ensures { result ≡ contains_word reserved_names name.now }
 {
     has_row(reserved_name_rows(), name)
 }
@@ -119,7 +119,7 @@ fn reserved_name_rows() -> &'static [Row<()>]
 // Whether the table of these rows has one for the word.
 fn has_row(rows: &[Row<()>], word: &[u8]) -> bool
     requires { IsTrue (keys_differ rows.now) }
-    ensures { result ≡ is_among (map word_of rows.now) word.now }
+    ensures { result ≡ contains_word (map word_of rows.now) word.now }
 {
     Table::new(rows).get(word).is_some()
 }
