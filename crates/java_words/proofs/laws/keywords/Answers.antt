@@ -1,5 +1,5 @@
-use Rattle.java_lexer.proofs.KeywordTexts.{found, only}
-use Rattle.java_lexer.proofs.laws.keywords.Goals as goal
+use Rattle.java_words.proofs.KeywordTexts.{found, only}
+use Rattle.java_words.proofs.laws.keywords.Goals as goal
 
 pub returns-clause-found : goal.returns-clause-found
 returns-clause-found c = found
