@@ -4,8 +4,9 @@ ghost use Rattle.std.specs.Prelude.{◌≡◌, ◌≤◌, ◌<◌, ◌+◌, ◌-
 ghost use Rattle.java_tree.specs.Trees as s;
 ghost use Rattle.java_pieces.specs.Shown.{shown};
 ghost use Rattle.java_reading.specs.Reading as r;
-ghost use Rattle.java_parts.specs.Gives.{Turns};
+ghost use Rattle.java_parts.specs.Gives.{Turns, ends_first};
 
+use crate::names::after_dotted;
 use crate::types::{closes, primitive};
 use java_pieces::{Head, Pieces, first};
 use java_tree::{Keyword, Mark};
@@ -48,9 +49,10 @@ pub fn begins_sign<'a>(pieces: Pieces<'a>) -> bool
     }
 }
 
+/// A turn of the search for the `)`.
 pub enum Turn<'a> {
     Done(Pieces<'a>),
-    /// How many brackets are depth, and the pieces after this one.
+    /// How many brackets are open, and the pieces after this one.
     Go(usize, Pieces<'a>),
 }
 
@@ -103,16 +105,41 @@ pub fn is_cast<'a>(pieces: Pieces<'a>, after: Pieces<'a>) -> bool
     begins_primitive(pieces) || begins_operand(after)
 }
 
+fn ends_first<'a>(pieces: Pieces<'a>) -> bool
+    ensures { result ≡ ends_first (shown pieces.now) }
+{
+    match first(pieces) {
+        Head::Mark(Mark::Comma | Mark::CloseRound, _, _) => true,
+        _ => false,
+    }
+}
+
 /// Whether a name with a comma or a `)` behind it comes first.
-pub fn begins_names(pieces: Pieces<'_>) -> bool
+#[tactic(auto, using(crate::proofs::Rules::names_is))]
+pub fn begins_names<'a>(pieces: Pieces<'a>) -> bool
     ensures { result ≡ r.begins_names (shown pieces.now) }
 {
-    todo
+    match first(pieces) {
+        Head::Id(_, _, rest) => ends_first(rest),
+        _ => false,
+    }
+}
+
+fn begins_inferred_by<'a>(pieces: Pieces<'a>) -> bool
+    ensures { result ≡ r.begins_inferred_by (shown pieces.now) }
+{
+    match first(pieces) {
+        Head::Mark(Mark::Less, _, rest) => closes(rest).is_some(),
+        _ => false,
+    }
 }
 
 /// Whether a name with `<` and `>` behind it comes first.
-pub fn begins_inferred(pieces: Pieces<'_>) -> bool
+pub fn begins_inferred<'a>(pieces: Pieces<'a>) -> bool
     ensures { result ≡ r.begins_inferred (shown pieces.now) }
 {
-    todo
+    match first(pieces) {
+        Head::Id(_, _, rest) => begins_inferred_by(after_dotted(rest)),
+        _ => false,
+    }
 }
