@@ -4,10 +4,11 @@ use Rattle.std.specs.Borrow.{Bor}
 use Rattle.std.specs.declared.alloc.Global.{Global}
 use Rattle.j2k_base.specs.declared.errors.NoMemory.{NoMemory}
 use Rattle.java_tree.specs.declared.tokens.Position.{Position}
+use Rattle.java_tree.specs.declared.exprs.JLiteral.{JLiteral}
 use Rattle.java_tree.specs.declared.exprs.JExpr.{JExpr}
 use Rattle.java_tree.specs.declared.exprs.JExpr.TheVariants as e
 use Rattle.java_tree.specs.Seen.{Tokens}
-use Rattle.java_tree.specs.Trees.{depth, deepest, else_level, params_depth, created_depth}
+use Rattle.java_tree.specs.Trees.{depth, deepest, else_level, params_depth, created_depth, is_least}
 use Rattle.java_reading.specs.Reading.{Read, Reader, Listed, read, ◌>>=◌, maybe, suffix, strength, takes}
 use Rattle.java_pieces.specs.declared.piece.Piece.{Piece}
 use Rattle.java_pieces.specs.Shown.{shown}
@@ -52,6 +53,13 @@ pub record Nests (d : ℕ) (pre : Global → Bor (List Piece) → ℕ → ℕ �
   pub callable : (alloc : Global) (ts : Bor (List Piece)) (least : ℕ) → pre alloc ts d least
   pub reads : (alloc : Global) (ts : Bor (List Piece)) (least : ℕ) (x : Result (Option (ExprFound × Bor (List Piece))) NoMemory) → post alloc ts d least x
       → Gives expr_found (ExprFits d) (read d least (shown ts.now)) x
+
+abbrev pub literal_read : JLiteral → Position → Reader JExpr
+literal_read literal at ts = if is_least literal then None else Some (e.Literal literal at, ts)
+
+-- the literal that only the unary minus takes, behind it
+abbrev pub minus_read : Position → JLiteral → Position → Reader JExpr
+minus_read minus literal at ts = if is_least literal then Some (e.MinusLeast minus literal at, ts) else None
 
 -- behind the `:` of a conditional
 abbrev pub else_read : (ℕ → Reader JExpr) → JExpr → Position → JExpr → Position → Reader JExpr

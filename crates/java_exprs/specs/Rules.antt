@@ -1,5 +1,5 @@
 -- The rules of the reader at a depth of its parts.
-use Rattle.std.specs.Prelude.{ℕ, List}
+use Rattle.std.specs.Prelude.{ℕ, ◌+◌, List}
 use Rattle.java_tree.specs.declared.tokens.Position.{Position}
 use Rattle.java_tree.specs.declared.tokens.Mark.{Mark}
 use Rattle.java_tree.specs.declared.tokens.Keyword.{Keyword}
@@ -114,3 +114,9 @@ element d left lp ts = r.element (type_read d) (base_read d) (typed_read d) (rea
 
 abbrev pub finish : ℕ → Suffix → JExpr → Reader JExpr
 finish d suffix left ts = r.finish (type_read d) (base_read d) (typed_read d) (read d) suffix left ts
+
+abbrev pub climb : ℕ → ℕ → JExpr → Reader JExpr
+climb d least left ts = r.climb (type_read d) (base_read d) (typed_read d) (read d) d least (d + 1) left ts
+
+abbrev pub level_read : ℕ → ℕ → Reader JExpr
+level_read d least ts = r.level_read (type_read d) (base_read d) (typed_read d) (read d) d least ts

@@ -11,7 +11,7 @@ ghost use Rattle.java_exprs.specs.Exprs.{ExprFits, ExprsFit, expr_found, exprs_f
 use crate::found::{ExprFound, ExprsFound};
 use crate::larger::larger;
 use j2k_base::NoMemory;
-use crate::ends::args_end;
+use crate::ends::{args_end, same};
 use java_pieces::{Pieces, braces_end, comma, inner_comma};
 use java_tree::Position;
 use sqlite_items::Items;
@@ -93,7 +93,7 @@ impl<
             found.items.push(next.tree.into_inner())?;
             found.commas.push(at)?;
             found.deepest = larger(found.deepest, next.depth);
-            pieces = rest;
+            pieces = same(rest);
         }
         Ok(Some((found, pieces)))
     }
@@ -153,7 +153,7 @@ impl<
             found.items.push(next.tree.into_inner())?;
             found.commas.push(at)?;
             found.deepest = larger(found.deepest, next.depth);
-            pieces = rest;
+            pieces = same(rest);
         }
         Ok(Some((found, pieces)))
     }

@@ -1,0 +1,117 @@
+//! What stands in parentheses, and lambdas.
+
+ghost use Rattle.std.specs.Prelude.{◌≡◌, ◌≤◌, ◌<◌, ◌+◌, max, Some};
+ghost use Rattle.java_tree.specs.Trees as s;
+ghost use Rattle.java_tree.specs.declared.exprs.JExpr.TheVariants as e;
+ghost use Rattle.java_pieces.specs.Shown.{shown};
+ghost use Rattle.java_exprs.specs.Gives.{Gives};
+ghost use Rattle.java_exprs.specs.Rules as g;
+ghost use Rattle.java_exprs.specs.Exprs.{OperandFits, IsParams, expr_found, Nests};
+
+use crate::found::{ExprFound, Params};
+use crate::grammar::Grammar;
+use crate::larger::larger;
+use j2k_base::NoMemory;
+use java_pieces::{Head, Pieces, arrow, close, first};
+use java_tree::{JExpr, JParams, Position, Span};
+use sqlite_items::Boxed;
+use std::alloc::Global;
+
+impl<
+    F: Fn(Global, Pieces<'_>, usize, usize) -> Result<Option<(ExprFound, Pieces<'_>)>, NoMemory>,
+> Grammar<F> {
+    #[tactic(auto, using(java_reading::proofs::ExprParts::parts), unfolding(java_reading::specs::Reading::paren))]
+    fn paren<'a>(
+        &self,
+        lp: Position,
+        pieces: Pieces<'a>,
+    ) -> Result<Option<(ExprFound, Pieces<'a>)>, NoMemory>
+        requires nests { Nests self.now.depth (F.pre self.now.read) (F.post self.now.read) }
+        requires room { self.now.depth < usize.MAX }
+        ensures { Gives expr_found (OperandFits self.now.depth) (g.paren self.now.depth lp (shown pieces.now)) result }
+    {
+        let Some((inner, rest)) = self.sub(pieces, 1)? else {
+            return Ok(None);
+        };
+        let Some((rp, rest)) = close(rest) else {
+            return Ok(None);
+        };
+        let ExprFound { tree, depth } = inner;
+        let tree = Boxed::new(self.alloc, JExpr::Paren(lp, tree, rp))?;
+        Ok(Some((
+            ExprFound {
+                tree,
+                depth: depth + 1,
+            },
+            rest,
+        )))
+    }
+
+
+
+    /// A lambda behind its parameters, with an expression.
+    #[tactic(auto, using(java_reading::proofs::ExprParts::parts), unfolding(java_reading::specs::Reading::lambda_body))]
+    fn lambda_body<'a>(
+        &self,
+        params: Params,
+        pieces: Pieces<'a>,
+    ) -> Result<Option<(ExprFound, Pieces<'a>)>, NoMemory>
+        requires nests { Nests self.now.depth (F.pre self.now.read) (F.post self.now.read) }
+        requires room { self.now.depth < usize.MAX }
+        requires fits { IsParams self.now.depth params }
+        ensures { Gives expr_found (OperandFits self.now.depth) (g.lambda_body self.now.depth params.tree (shown pieces.now)) result }
+    {
+        let Some((at, rest)) = arrow(pieces) else {
+            return Ok(None);
+        };
+        let Some((body, rest)) = self.sub(rest, 1)? else {
+            return Ok(None);
+        };
+        let Params { tree, depth } = params;
+        let depth = larger(depth, body.depth) + 1;
+        let tree = Boxed::new(self.alloc, JExpr::Lambda(tree, at, body.tree))?;
+        Ok(Some((ExprFound { tree, depth }, rest)))
+    }
+
+    /// A lambda with a block.
+    #[tactic(auto, using(java_reading::proofs::ExprParts::parts))]
+    fn block<'a>(
+        &self,
+        params: Params,
+        at: Position,
+        body: Span,
+        pieces: Pieces<'a>,
+    ) -> Result<Option<(ExprFound, Pieces<'a>)>, NoMemory>
+        requires nests { Nests self.now.depth (F.pre self.now.read) (F.post self.now.read) }
+        requires room { self.now.depth < usize.MAX }
+        requires fits { IsParams self.now.depth params }
+        ensures { Gives expr_found (OperandFits self.now.depth) (Some (e.LambdaBlock params.tree at body, shown pieces.now)) result }
+    {
+        let Params { tree, depth } = params;
+        let depth = larger(depth, 1) + 1;
+        let tree = Boxed::new(self.alloc, JExpr::LambdaBlock(tree, at, body))?;
+        Ok(Some((ExprFound { tree, depth }, pieces)))
+    }
+
+    /// Behind the parameters.
+    #[tactic(auto, using(java_reading::proofs::ExprParts::parts), unfolding(java_reading::specs::Reading::lambda))]
+    pub fn lambda<'a>(
+        &self,
+        params: Params,
+        pieces: Pieces<'a>,
+    ) -> Result<Option<(ExprFound, Pieces<'a>)>, NoMemory>
+        requires nests { Nests self.now.depth (F.pre self.now.read) (F.post self.now.read) }
+        requires room { self.now.depth < usize.MAX }
+        requires fits { IsParams self.now.depth params }
+        ensures { Gives expr_found (OperandFits self.now.depth) (g.lambda self.now.depth params.tree (shown pieces.now)) result }
+    {
+        match first(pieces) {
+            Head::Block(at, body, rest) => self.block(params, at, body, rest),
+            _ => self.lambda_body(params, pieces),
+        }
+    }
+
+
+
+
+}
