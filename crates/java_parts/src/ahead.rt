@@ -6,7 +6,7 @@ ghost use Rattle.java_pieces.specs.Shown.{shown};
 ghost use Rattle.java_reading.specs.Reading as r;
 ghost use Rattle.java_parts.specs.Gives.{Turns, ends_first};
 
-use crate::names::after_dotted;
+use crate::names::{after_dotted, onward};
 use crate::types::{closes, primitive};
 use java_pieces::{Head, Pieces, first};
 use java_tree::{Keyword, Mark};
@@ -91,7 +91,7 @@ pub fn after_close<'a>(pieces: Pieces<'a>) -> Pieces<'a>
             Turn::Done(after) => return after,
             Turn::Go(now, after) => {
                 depth = now;
-                rest = after;
+                rest = onward(after);
             }
         }
     }

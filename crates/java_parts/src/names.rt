@@ -22,6 +22,14 @@ pub struct DotName<'a> {
     pub rest: Pieces<'a>,
 }
 
+/// The pieces themselves. A loop that goes on behind what it found takes the rest through this
+/// call, since the borrow checker joins no other way.
+pub fn onward<'a>(pieces: Pieces<'a>) -> Pieces<'a>
+    ensures { result.now ≡ pieces.now }
+{
+    pieces
+}
+
 /// A name that comes first.
 pub fn ident<'a>(
     alloc: Global,
@@ -73,7 +81,7 @@ pub fn brackets<'a>(
     let mut pairs = Items::new(alloc);
     while let Some((next, rest)) = pair(pieces) {
         pairs.push(next)?;
-        pieces = rest;
+        pieces = onward(rest);
     }
     Ok((pairs, pieces))
 }
@@ -116,7 +124,7 @@ pub fn dotted<'a>(
             name,
             at: next.at,
         })?;
-        pieces = next.rest;
+        pieces = onward(next.rest);
     }
     Ok((names, pieces))
 }
@@ -127,7 +135,7 @@ pub fn after_dotted<'a>(mut pieces: Pieces<'a>) -> Pieces<'a>
     ensures { shown result.now ≡ (r.dotted (shown pieces.entry.now)).1 }
 {
     while let Some(next) = dot_name(pieces) {
-        pieces = next.rest;
+        pieces = onward(next.rest);
     }
     pieces
 }

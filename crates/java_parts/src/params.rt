@@ -5,7 +5,7 @@ ghost use Rattle.java_pieces.specs.Shown.{shown};
 ghost use Rattle.java_reading.specs.Reading as r;
 ghost use Rattle.java_parts.specs.Gives.{Gives, Always, params_found, typed_found, typeds_found, TypedFits, TypedsFit, typed_list};
 
-use crate::names::ident;
+use crate::names::{ident, onward};
 use crate::types::{TypeFound, larger, read_type};
 use j2k_base::NoMemory;
 use java_pieces::{Head, Pieces, close, comma, first};
@@ -69,7 +69,7 @@ fn more_params<'a>(
         };
         found.items.push(next)?;
         found.commas.push(at)?;
-        pieces = rest;
+        pieces = onward(rest);
     }
     Ok(Some((found, pieces)))
 }
@@ -182,7 +182,7 @@ fn more_typed<'a>(
         found.items.push(next.tree)?;
         found.commas.push(at)?;
         found.deepest = larger(found.deepest, next.depth);
-        pieces = rest;
+        pieces = onward(rest);
     }
     Ok(Some((found, pieces)))
 }

@@ -7,7 +7,7 @@ ghost use Rattle.java_pieces.specs.Heads.{Finds};
 ghost use Rattle.java_reading.specs.Reading as r;
 ghost use Rattle.java_parts.specs.Gives.{Gives, TypeFits, TypesFit, type_found, types_found};
 
-use crate::names::{brackets, qualified};
+use crate::names::{brackets, onward, qualified};
 use j2k_base::NoMemory;
 use java_pieces::{Head, Pieces, comma, first};
 use java_tree::{JBrackets, JQualified, JType, Keyword, Mark, Position, Primitive};
@@ -94,7 +94,7 @@ pub fn read_base<'a>(
 }
 
 /// An array of what was found, where brackets stand behind it; the parts are no deeper than `depth`.
-#[tactic(auto, using(crate::proofs::Rules::rules))]
+#[tactic(auto, using(crate::proofs::Rules::arrays))]
 fn array_by<'a>(
     alloc: Global,
     depth: usize,
@@ -252,7 +252,7 @@ fn more_types<'a>(
         found.items.push(next.tree)?;
         found.commas.push(at)?;
         found.deepest = larger(found.deepest, next.depth);
-        pieces = rest;
+        pieces = onward(rest);
     }
     Ok(Some((found, pieces)))
 }
