@@ -1,6 +1,5 @@
 -- What stands behind values in braces, a piece at a time.
-use Rattle.std.proofs.Common.{◌≡◌, List, [], ◌∷◌, Option, Some, None, refl}
-use Rattle.java_tree.specs.declared.tokens.Mark.{Mark}
+use Rattle.std.proofs.Common.{◌≡◌, [], ◌∷◌, Option, Some, None, refl}
 use Rattle.java_tree.specs.declared.tokens.Mark.TheVariants as m
 use Rattle.java_tree.specs.declared.tokens.Position.{Position}
 use Rattle.java_tree.specs.Seen.{Token, Tokens}

@@ -3,7 +3,7 @@ use Rattle.std.specs.Prelude.{◌≡◌, ◌+◌, length, List, [], ◌∷◌, O
 use Rattle.std.specs.Borrow.{Bor}
 use Rattle.java_tree.specs.declared.tokens.Mark.TheVariants as m
 use Rattle.java_tree.specs.declared.tokens.Position.{Position}
-use Rattle.java_tree.specs.Seen.{Token, Tokens, literal}
+use Rattle.java_tree.specs.Seen.{Token, literal}
 use Rattle.java_reading.specs.Reading.{Read, Reader}
 use Rattle.java_pieces.specs.declared.piece.Piece.{Piece}
 use Rattle.java_pieces.specs.declared.head.Head.{Head}

@@ -1,4 +1,4 @@
-use Rattle.std.proofs.Common.{◌≡◌, ap, sym, ◌∙◌, subst}
+use Rattle.std.proofs.Common.{ap, sym, ◌∙◌, subst}
 use Rattle.java_tree.specs.declared.tokens.Position.{Position}
 use Rattle.java_reading.specs.Reading.{Read, ◌>>=◌}
 use Rattle.java_pieces.specs.Heads.{Finds, unclosed}
