@@ -1,5 +1,5 @@
 -- One layer of a tree: what it spells, its depth, and a tree that stands at another depth.
-use Rattle.std.proofs.Common.{◌≡◌, ◌≤◌, ℕ, zero, suc, max, Bool, List, [], ◌∷◌, map, ap, arith}
+use Rattle.std.proofs.Common.{◌≡◌, ◌≤◌, ℕ, zero, suc, List, [], ◌∷◌, map, ap, arith}
 use Rattle.std.specs.List.{AllByRecursion}
 use Rattle.java_tree.specs.declared.types.JType.{JType, out-JType, map-JType, fold_out-JType}
 use Rattle.java_tree.specs.declared.types.JType.TheOpen.{JType-F}
