@@ -5,6 +5,7 @@ use Rattle.std.specs.declared.alloc.Global.{Global}
 use Rattle.j2k_base.specs.declared.errors.NoMemory.{NoMemory}
 use Rattle.java_tree.specs.declared.tokens.Position.{Position}
 use Rattle.java_tree.specs.declared.exprs.JLiteral.{JLiteral}
+use Rattle.java_tree.specs.declared.exprs.PrefixOp.TheVariants as prefix
 use Rattle.java_tree.specs.declared.exprs.JExpr.{JExpr}
 use Rattle.java_tree.specs.declared.exprs.JExpr.TheVariants as e
 use Rattle.java_tree.specs.Seen.{Tokens}
@@ -17,8 +18,8 @@ use Rattle.java_exprs.specs.declared.found.ExprsFound.{ExprsFound}
 use Rattle.java_exprs.specs.declared.found.Params.{Params}
 use Rattle.java_exprs.specs.declared.found.Made.{Made}
 use Rattle.java_exprs.specs.declared.found.Grown.{Grown}
-use Rattle.java_exprs.specs.Gives.{Gives}
-use Rattle.java_exprs.specs.Rules.{finish}
+use Rattle.java_parts.specs.Gives.{Gives}
+use Rattle.java_exprs.specs.Rules.{finish, prefixed}
 
 abbrev pub expr_found : ExprFound × Bor (List Piece) → JExpr × Tokens
 expr_found x = (x.0.tree, shown x.1.now)
@@ -57,9 +58,9 @@ pub record Nests (d : ℕ) (pre : Global → Bor (List Piece) → ℕ → ℕ �
 abbrev pub literal_read : JLiteral → Position → Reader JExpr
 literal_read literal at ts = if is_least literal then None else Some (e.Literal literal at, ts)
 
--- the literal that only the unary minus takes, behind it
-abbrev pub minus_read : Position → JLiteral → Position → Reader JExpr
-minus_read minus literal at ts = if is_least literal then Some (e.MinusLeast minus literal at, ts) else None
+-- a `-` before a literal, behind which `rest` stands
+abbrev pub minus_read : ℕ → Position → JLiteral → Position → Tokens → Reader JExpr
+minus_read d minus literal at rest ts = if is_least literal then Some (e.MinusLeast minus literal at, rest) else prefixed d (Some prefix.Minus) minus ts
 
 -- behind the `:` of a conditional
 abbrev pub else_read : (ℕ → Reader JExpr) → JExpr → Position → JExpr → Position → Reader JExpr

@@ -1,6 +1,5 @@
 //! The end of arguments.
 
-ghost use Rattle.std.specs.Prelude.{◌≡◌};
 ghost use Rattle.java_reading.specs.Reading as r;
 ghost use Rattle.java_pieces.specs.Heads.{Finds};
 ghost use Rattle.java_pieces.specs.Shown.{shown};
@@ -17,11 +16,4 @@ pub fn args_end<'a>(pieces: Pieces<'a>) -> Option<((Position, Option<Span>), Pie
         Head::Body(at, body, rest) => Some(((at, Some(body)), rest)),
         _ => None,
     }
-}
-
-/// The pieces themselves, as the answer of a call, which a loop may take up.
-pub fn same<'a>(pieces: Pieces<'a>) -> Pieces<'a>
-    ensures { result.now ≡ pieces.now }
-{
-    pieces
 }

@@ -4,14 +4,14 @@ ghost use Rattle.std.specs.Prelude.{◌≡◌, ◌≤◌, ◌<◌, ◌+◌, leng
 ghost use Rattle.java_tree.specs.Trees as s;
 ghost use Rattle.java_reading.specs.Reading as r;
 ghost use Rattle.java_pieces.specs.Shown.{shown};
-ghost use Rattle.java_exprs.specs.Gives.{Gives};
+ghost use Rattle.java_parts.specs.Gives.{Gives};
 ghost use Rattle.java_exprs.specs.Rules as g;
 ghost use Rattle.java_exprs.specs.Exprs.{ExprFits, ExprsFit, expr_found, exprs_found, Nests};
 
+use crate::ends::args_end;
 use crate::found::{ExprFound, ExprsFound};
-use crate::larger::larger;
 use j2k_base::NoMemory;
-use crate::ends::{args_end, same};
+use java_parts::{larger, onward};
 use java_pieces::{Pieces, braces_end, comma, inner_comma};
 use java_tree::Position;
 use sqlite_items::Items;
@@ -54,7 +54,7 @@ impl<
         }
     }
 
-    #[tactic(auto, using(java_reading::proofs::ExprParts::parts), unfolding(java_reading::specs::Reading::some_by))]
+    #[tactic(auto, using(crate::proofs::Lists::lists), unfolding(java_reading::specs::Reading::some_by))]
     fn some_args<'a>(
         &self,
         pieces: Pieces<'a>,
@@ -93,7 +93,7 @@ impl<
             found.items.push(next.tree.into_inner())?;
             found.commas.push(at)?;
             found.deepest = larger(found.deepest, next.depth);
-            pieces = same(rest);
+            pieces = onward(rest);
         }
         Ok(Some((found, pieces)))
     }
@@ -114,7 +114,7 @@ impl<
         self.some_args(pieces)
     }
 
-    #[tactic(auto, using(java_reading::proofs::ExprParts::parts), unfolding(java_reading::specs::Reading::some_by))]
+    #[tactic(auto, using(crate::proofs::Lists::lists), unfolding(java_reading::specs::Reading::some_by))]
     fn some_inits<'a>(
         &self,
         pieces: Pieces<'a>,
@@ -153,7 +153,7 @@ impl<
             found.items.push(next.tree.into_inner())?;
             found.commas.push(at)?;
             found.deepest = larger(found.deepest, next.depth);
-            pieces = same(rest);
+            pieces = onward(rest);
         }
         Ok(Some((found, pieces)))
     }

@@ -5,14 +5,14 @@ ghost use Rattle.java_tree.specs.declared.exprs.JExpr.TheVariants as e;
 ghost use Rattle.java_reading.specs.Reading as r;
 ghost use Rattle.java_reading.specs.declared.suffix.Suffix.TheVariants as sx;
 ghost use Rattle.java_pieces.specs.Shown.{shown};
-ghost use Rattle.java_exprs.specs.Gives.{Gives};
+ghost use Rattle.java_parts.specs.Gives.{Gives};
 ghost use Rattle.java_exprs.specs.Rules as g;
 ghost use Rattle.java_exprs.specs.Exprs.{ExprFits, IsExpr, expr_found, Nests, else_read};
 
 use crate::found::{ExprFound, ExprsFound, Half};
 use crate::grammar::Grammar;
-use crate::larger::larger;
 use j2k_base::NoMemory;
+use java_parts::{TypeFound, ident, larger, level, read_type};
 use java_pieces::{Head, Pieces, close, close_square, colon, first};
 use java_reading::Suffix;
 use java_tree::{AssignOp, BinaryOp, JExpr, JParam, Mark, Position, PostfixOp};
@@ -38,6 +38,27 @@ fn conditional(alloc: Global, half: Half, last: ExprFound) -> Result<ExprFound, 
 impl<
     F: Fn(Global, Pieces<'_>, usize, usize) -> Result<Option<(ExprFound, Pieces<'_>)>, NoMemory>,
 > Grammar<F> {
+    #[tactic(auto, using(crate::proofs::Levels::levels), unfolding(java_reading::specs::Reading::finish))]
+    fn binary<'a>(
+        &self,
+        op: BinaryOp,
+        at: Position,
+        left: ExprFound,
+        pieces: Pieces<'a>,
+    ) -> Result<Option<(ExprFound, Pieces<'a>)>, NoMemory>
+        requires nests { Nests self.now.depth (F.pre self.now.read) (F.post self.now.read) }
+        requires room { self.now.depth < usize.MAX }
+        requires fits { IsExpr self.now.depth left }
+        ensures { Gives expr_found (ExprFits (self.now.depth + 1)) (g.finish self.now.depth (sx.Binary op at) left.tree (shown pieces.now)) result }
+    {
+        let Some((right, rest)) = self.sub(pieces, level(op) + 1)? else {
+            return Ok(None);
+        };
+        let depth = larger(left.depth, right.depth) + 1;
+        let tree = JExpr::Binary(left.tree, op, at, right.tree);
+        let tree = Boxed::new(self.alloc, tree)?;
+        Ok(Some((ExprFound { tree, depth }, rest)))
+    }
 
     #[tactic(auto, using(java_reading::proofs::ExprParts::parts), unfolding(java_reading::specs::Reading::finish))]
     fn assign<'a>(
@@ -108,6 +129,23 @@ impl<
         Ok(Some((found, rest)))
     }
 
+    #[tactic(auto, using(java_reading::proofs::ExprParts::parts), unfolding(java_reading::specs::Reading::finish))]
+    fn dotted<'a>(
+        &self,
+        dot: Position,
+        left: ExprFound,
+        pieces: Pieces<'a>,
+    ) -> Result<Option<(ExprFound, Pieces<'a>)>, NoMemory>
+        requires nests { Nests self.now.depth (F.pre self.now.read) (F.post self.now.read) }
+        requires room { self.now.depth < usize.MAX }
+        requires fits { IsExpr self.now.depth left }
+        ensures { Gives expr_found (ExprFits (self.now.depth + 1)) (g.finish self.now.depth (sx.Dot dot) left.tree (shown pieces.now)) result }
+    {
+        let Some((name, rest)) = ident(self.alloc, pieces)? else {
+            return Ok(None);
+        };
+        self.member(left, dot, name, rest)
+    }
 
     /// Behind a dot and a name.
     #[tactic(auto, using(java_reading::proofs::ExprParts::parts), unfolding(java_reading::specs::Reading::member))]
@@ -234,5 +272,52 @@ impl<
         )))
     }
 
+    /// Behind `instanceof`.
+    #[tactic(auto, using(java_reading::proofs::ExprParts::parts), unfolding(java_reading::specs::Reading::finish))]
+    fn test<'a>(
+        &self,
+        at: Position,
+        left: ExprFound,
+        pieces: Pieces<'a>,
+    ) -> Result<Option<(ExprFound, Pieces<'a>)>, NoMemory>
+        requires nests { Nests self.now.depth (F.pre self.now.read) (F.post self.now.read) }
+        requires room { self.now.depth < usize.MAX }
+        requires fits { IsExpr self.now.depth left }
+        ensures { Gives expr_found (ExprFits (self.now.depth + 1)) (g.finish self.now.depth (sx.Instanceof at) left.tree (shown pieces.now)) result }
+    {
+        let Some((to, rest)) = read_type(self.alloc, pieces, self.depth)? else {
+            return Ok(None);
+        };
+        let TypeFound {
+            tree: to,
+            depth: other,
+        } = to;
+        let depth = larger(left.depth, other) + 1;
+        let tree = Boxed::new(self.alloc, JExpr::Instanceof(left.tree, at, to))?;
+        Ok(Some((ExprFound { tree, depth }, rest)))
+    }
 
+    /// Behind a suffix.
+    #[tactic(auto, using(java_reading::proofs::ExprParts::parts), unfolding(java_reading::specs::Reading::finish))]
+    pub fn finish<'a>(
+        &self,
+        suffix: Suffix,
+        left: ExprFound,
+        pieces: Pieces<'a>,
+    ) -> Result<Option<(ExprFound, Pieces<'a>)>, NoMemory>
+        requires nests { Nests self.now.depth (F.pre self.now.read) (F.post self.now.read) }
+        requires room { self.now.depth < usize.MAX }
+        requires fits { IsExpr self.now.depth left }
+        ensures { Gives expr_found (ExprFits (self.now.depth + 1)) (g.finish self.now.depth suffix left.tree (shown pieces.now)) result }
+    {
+        match suffix {
+            Suffix::Binary(op, at) => self.binary(op, at, left, pieces),
+            Suffix::Assign(op, at) => self.assign(op, at, left, pieces),
+            Suffix::Question(at) => self.choice(left, at, pieces),
+            Suffix::Dot(at) => self.dotted(at, left, pieces),
+            Suffix::Square(at) => self.element(left, at, pieces),
+            Suffix::Postfix(op, at) => self.postfix(op, at, left, pieces),
+            Suffix::Instanceof(at) => self.test(at, left, pieces),
+        }
+    }
 }
