@@ -1,5 +1,5 @@
 -- Depths, lengths and looks ahead, as the proofs of the readers use them.
-use Rattle.std.proofs.Common.{◌≡◌, ◌≢◌, ◌<◌, ℕ, suc, List, [], ◌∷◌, Some, None, length, false, if◌then◌else◌, nat_le, refl, ap, sym, ◌∙◌, arith}
+use Rattle.std.proofs.Common.{◌≡◌, ◌≢◌, ◌<◌, ℕ, suc, List, [], ◌∷◌, ◌++◌, Some, None, length, false, if◌then◌else◌, nat_le, refl, ap, sym, ◌∙◌, arith, append_assoc, append-nil}
 use Rattle.java_tree.specs.declared.tokens.Mark.TheVariants as m
 use Rattle.java_tree.specs.declared.types.JBrackets.{JBrackets}
 use Rattle.java_tree.specs.declared.types.JDotted.{JDotted}
@@ -49,6 +49,22 @@ dotted_more (Token.Sign m.Dot d ∷ []) x rest e = absurd (cc e)
 dotted_more (Token.Sign m.Dot d ∷ Token.Id n at ∷ ts) x rest e = grind arith
 dotted_more (Token.Sign m.Dot d ∷ _ ∷ ts) x rest e = absurd (cc e)
 dotted_more (_ ∷ ts) x rest e = absurd (cc e)
+
+pub brackets_end : (whole ts : Tokens) (xs : List JBrackets) → brackets whole ≡ (xs ++ (brackets ts).0, (brackets ts).1) → pair_at ts ≡ None → (xs, ts) ≡ brackets whole
+brackets_end whole ts xs e none =
+    sym (e ∙ ap (λ (b : List JBrackets × Tokens). (xs ++ b.0, b.1)) (brackets_none ts none) ∙ ap (λ ys. (ys, ts)) (append-nil xs))
+
+pub brackets_on : (whole ts rest : Tokens) (xs : List JBrackets) (x : JBrackets) → brackets whole ≡ (xs ++ (brackets ts).0, (brackets ts).1) → pair_at ts ≡ Some (x, rest) → brackets whole ≡ ((xs ++ x ∷ []) ++ (brackets rest).0, (brackets rest).1)
+brackets_on whole ts rest xs x e some =
+    e ∙ ap (λ (b : List JBrackets × Tokens). (xs ++ b.0, b.1)) (brackets_more ts x rest some) ∙ ap (λ ys. (ys, (brackets rest).1)) (sym (append_assoc xs (x ∷ []) (brackets rest).0))
+
+pub dotted_end : (whole ts : Tokens) (xs : List JDotted) → dotted whole ≡ (xs ++ (dotted ts).0, (dotted ts).1) → dotted_at ts ≡ None → (xs, ts) ≡ dotted whole
+dotted_end whole ts xs e none =
+    sym (e ∙ ap (λ (b : List JDotted × Tokens). (xs ++ b.0, b.1)) (dotted_none ts none) ∙ ap (λ ys. (ys, ts)) (append-nil xs))
+
+pub dotted_on : (whole ts rest : Tokens) (xs : List JDotted) (x : JDotted) → dotted whole ≡ (xs ++ (dotted ts).0, (dotted ts).1) → dotted_at ts ≡ Some (x, rest) → dotted whole ≡ ((xs ++ x ∷ []) ++ (dotted rest).0, (dotted rest).1)
+dotted_on whole ts rest xs x e some =
+    e ∙ ap (λ (b : List JDotted × Tokens). (xs ++ b.0, b.1)) (dotted_more ts x rest some) ∙ ap (λ ys. (ys, (dotted rest).1)) (sym (append_assoc xs (x ∷ []) (dotted rest).0))
 
 pub pair_shorter : (ts : Tokens) (x : JBrackets) (rest : Tokens) → pair_at ts ≡ Some (x, rest) → length rest < length ts
 pair_shorter [] x rest e = absurd (cc e)
