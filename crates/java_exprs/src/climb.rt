@@ -128,5 +128,5 @@ pub fn read<'a>(
         depth: depth - 1,
         read,
     }
-    .level_read(pieces, least)
+    .level_read(least, pieces)
 }

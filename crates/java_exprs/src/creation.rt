@@ -5,6 +5,7 @@ ghost use Rattle.java_reading.specs.Reading as r;
 ghost use Rattle.java_pieces.specs.Shown.{shown};
 ghost use Rattle.java_parts.specs.Gives.{Gives, TypeFits};
 ghost use Rattle.java_exprs.specs.Rules as g;
+ghost use Rattle.java_exprs.specs.Creation.{new_class};
 ghost use Rattle.java_exprs.specs.Exprs.{OperandFits, IsMade, expr_found, Nests};
 
 use crate::ends::args_end;
@@ -23,7 +24,7 @@ fn pairs_from<'a>(
     pair: JBrackets,
     pieces: Pieces<'a>,
 ) -> Result<(Items<JBrackets>, Pieces<'a>), NoMemory>
-    ensures { IfOk result (λ x. (x.0, shown x.1.now) ≡ (pair ∷ (r.brackets (shown pieces.now)).0, (r.brackets (shown pieces.now)).1)) }
+    ensures { IfOk result (λ x. (x.0 ≡ pair ∷ (r.brackets (shown pieces.now)).0) × (shown x.1.now ≡ (r.brackets (shown pieces.now)).1)) }
 {
     let mut pairs = Items::new(alloc);
     pairs.push(pair)?;
@@ -185,7 +186,7 @@ impl<
         requires nests { Nests self.now.depth (F.pre self.now.read) (F.post self.now.read) }
         requires room { self.now.depth < usize.MAX }
         requires fits { TypeFits self.now.depth (of, pieces) }
-        ensures { Gives expr_found (OperandFits self.now.depth) (g.new_class self.now.depth at of.tree lp (shown pieces.now)) result }
+        ensures { Gives expr_found (OperandFits self.now.depth) (new_class self.now.depth at of.tree lp (shown pieces.now)) result }
     {
         if !is_class(&of.tree) {
             return Ok(None);

@@ -9,3 +9,6 @@ mod grammar;
 mod groups;
 mod operands;
 mod suffixes;
+
+pub use climb::read;
+pub use found::ExprFound;
