@@ -181,25 +181,10 @@ pub enum JExpr {
     LambdaBlock(JParams, Position, Span),
     /// `new`, the class, `(`, the arguments, the commas between them, `)`, the body where it is
     /// an anonymous class.
-    New(
-        Position,
-        JCreated,
-        Position,
-        Items<JExpr>,
-        Items<Position>,
-        Position,
-        Option<Span>,
-    ),
+    New(Position, JCreated, Position, Items<JExpr>, Items<Position>, Position, Option<Span>),
     /// `new`, the type of the elements, which is no array, `[`, the size, `]`, and a pair of
     /// brackets for each further dimension.
-    NewArray(
-        Position,
-        JType,
-        Position,
-        Boxed<JExpr>,
-        Position,
-        Items<JBrackets>,
-    ),
+    NewArray(Position, JType, Position, Boxed<JExpr>, Position, Items<JBrackets>),
     /// `new`, the type of the elements, which is no array, a pair of brackets for each dimension,
     /// `{`, the values, the commas between them, one more where it stands, `}`.
     NewFilled(
@@ -214,11 +199,5 @@ pub enum JExpr {
     ),
     /// The values of an array in braces (JLS 10.6), which stand where a declaration or an array
     /// takes its value: `{`, the values, the commas between them, one more where it stands, `}`.
-    Braces(
-        Position,
-        Items<JExpr>,
-        Items<Position>,
-        Option<Position>,
-        Position,
-    ),
+    Braces(Position, Items<JExpr>, Items<Position>, Option<Position>, Position),
 }

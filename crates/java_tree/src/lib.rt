@@ -6,8 +6,8 @@ mod tokens;
 mod types;
 
 pub use exprs::{
-    AssignOp, BinaryOp, JCreated, JExpr, JLiteral, JParam, JParams, JTypedParam, PostfixOp, PrefixOp,
-    Span,
+    AssignOp, BinaryOp, JCreated, JExpr, JLiteral, JParam, JParams, JTypedParam, PostfixOp,
+    PrefixOp, Span,
 };
 pub use tokens::{Comment, Comments, JToken, JTokens, Keyword, Mark, Position, TokenKind, Tokens};
 pub use types::{JBrackets, JDotted, JQualified, JType, Primitive};
