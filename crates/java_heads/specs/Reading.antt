@@ -159,7 +159,7 @@ basic d start ts = do
 
 -- behind the type: a name and `:`, or declarators
 abbrev pub walks : Tokens → Bool
-walks (Token.Id n at ∷ Token.Sign m.Colon colon ∷ rest) = true
+walks (Token.Id n at ∷ Token.Sign m.Colon p ∷ rest) = true
 walks _ = false
 
 unfoldable pub each : ℕ → Option Position → JType → Reader JForHead
