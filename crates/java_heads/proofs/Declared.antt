@@ -1,13 +1,12 @@
 -- Declarations: what is read is spelled so, and what is spelled so is read.
-use Rattle.std.proofs.Common.{◌≡◌, ◌≤◌, ◌<◌, ℕ, zero, suc, true, false, ◌++◌, List, [], ◌∷◌, length, map, Option, Some, None, refl, ap, sym, ◌∙◌, subst, arith}
+use Rattle.std.proofs.Common.{◌≡◌, ◌≤◌, ◌<◌, ℕ, zero, suc, true, ◌++◌, List, [], ◌∷◌, length, map, Option, Some, None, refl, ap, sym, ◌∙◌, subst, arith}
 use Rattle.std.specs.List.{AllByRecursion}
-use Rattle.std.proofs.lemmas.List.{append-nil}
 use Rattle.java_tree.specs.declared.tokens.Position.{Position}
 use Rattle.java_tree.specs.declared.tokens.Mark.TheVariants as m
 use Rattle.java_tree.specs.declared.tokens.Keyword.TheVariants as w
 use Rattle.java_tree.specs.Seen.{Token, Tokens}
 use Rattle.java_tree.specs.declared.types.JType.{JType}
-use Rattle.java_tree.specs.Trees.{listed, AreBetween, param_tokens, final_tokens, type_tokens, TypeStands, init_level, tokens}
+use Rattle.java_tree.specs.Trees.{listed, AreBetween, param_tokens, final_tokens, type_tokens, TypeStands, init_level}
 use Rattle.java_reading.specs.Reading as r
 use Rattle.java_reading.specs.Reading.{◌>>=◌, dotted, whole}
 use Rattle.java_reading.proofs.Tools.{bind_some, some_same}

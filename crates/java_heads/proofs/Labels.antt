@@ -1,5 +1,5 @@
 -- Locks, and labels of a switch: what is read is spelled so, and what is spelled so is read.
-use Rattle.std.proofs.Common.{◌≡◌, ◌<◌, ℕ, zero, suc, ◌++◌, List, [], ◌∷◌, Option, Some, None, inl, inr, refl, ap, sym, ◌∙◌, subst, append_assoc, arith}
+use Rattle.std.proofs.Common.{◌≡◌, ◌<◌, ℕ, zero, suc, ◌++◌, [], ◌∷◌, Some, inl, inr, refl, ap, sym, ◌∙◌, subst, append_assoc, arith}
 use Rattle.std.proofs.lemmas.List.{append-nil}
 use Rattle.java_tree.specs.declared.tokens.Position.{Position}
 use Rattle.java_tree.specs.declared.tokens.Mark.TheVariants as m
@@ -20,7 +20,7 @@ use Rattle.java_heads.specs.declared.statements.JSwitchLabel.{JSwitchLabel}
 use Rattle.java_heads.specs.declared.statements.JSwitchLabel.TheVariants as label
 use Rattle.java_heads.specs.Heads.{lock_tokens, LockStands, switch_tokens, SwitchStands}
 use Rattle.java_heads.specs.Reading.{class_of, class_lock, lock_read, case_of, switch_step, switch_read}
-use Rattle.java_heads.proofs.Whole.{whole_only, whole_again, read_sound, any_again, read_again}
+use Rattle.java_heads.proofs.Whole.{whole_only, read_sound, any_again, read_again}
 use Rattle.java_heads.proofs.Begins.{no_class_lock}
 
 -- ---- locks
