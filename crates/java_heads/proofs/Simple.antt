@@ -37,7 +37,7 @@ statement_sound d ts x e =
     subst P (some_same g.1) (i.0, record { stands = i.1; form = g.0 })
 
 -- It spells the tokens, and stands.
-abbrev pub Simply : ℕ → Tokens → JSimple → Type 0
+abbrev Simply : ℕ → Tokens → JSimple → Type 0
 Simply d ts x = (simple_tokens x ≡ ts) × SimpleStands d x
 
 expression_sound : (d : ℕ) (ts : Tokens) (x : JSimple) → expression d ts ≡ Some x → Simply d ts x
@@ -128,8 +128,7 @@ worded_sound d w.This at rest x e = behind_this_sound d at rest x e
 worded_sound d w.Super at rest x e = behind_super_sound d at rest x e
 worded_sound d word at rest x e = plain_sound d (Token.Word word at ∷ rest) x e
 
--- What is read is spelled so, and stands.
-pub simple_sound : (d : ℕ) (ts : Tokens) (x : JSimple) → simple_read d ts ≡ Some x → Simply d ts x
+simple_sound : (d : ℕ) (ts : Tokens) (x : JSimple) → simple_read d ts ≡ Some x → Simply d ts x
 unfolding simple_read
 simple_sound d [] x e = subst (Simply d []) (some_same e) (refl, tt)
 simple_sound d (Token.Word word at ∷ rest) x e = worded_sound d word at rest x e
@@ -203,8 +202,7 @@ args_read_again : (d : ℕ) (args : List JExpr) (commas : List Position) (rp : P
 unfolding args_read
 args_read_again d args commas rp b all = rw (args_again d (again d) args commas rp None [] b all) refl
 
--- What is spelled so is read.
-pub simple_again : (d : ℕ) (x : JSimple) → SimpleStands d x → simple_read d (simple_tokens x) ≡ Some x
+simple_again : (d : ℕ) (x : JSimple) → SimpleStands d x → simple_read d (simple_tokens x) ≡ Some x
 unfolding simple_read worded this_call super_call
 simple_again d simple.Empty s = refl
 simple_again d (simple.Declaration x) s =
@@ -218,10 +216,12 @@ simple_again d (simple.Throw at x) s = rw (read_again d x s) refl
 simple_again d (simple.ThisCall at lp args commas rp) s = rw (args_read_again d args commas rp s.0 s.1) refl
 simple_again d (simple.SuperCall at lp args commas rp) s = rw (args_read_again d args commas rp s.0 s.1) refl
 
--- ---- both
+-- ---- the laws
 
+-- What is read is spelled so, and stands.
 pub simple_is_spelled : (d : ℕ) (ts : Tokens) (x : JSimple) → simple_read d ts ≡ Some x → (simple_tokens x ≡ ts) × SimpleStands d x
 simple_is_spelled d ts x e = simple_sound d ts x e
 
+-- What is spelled so is read.
 pub simple_is_read : (d : ℕ) (ts : Tokens) (x : JSimple) → SimpleStands d x → simple_tokens x ≡ ts → simple_read d ts ≡ Some x
 simple_is_read d ts x s same = subst (λ ts. simple_read d ts ≡ Some x) same (simple_again d x s)
