@@ -1,2 +1,4 @@
 pub mod Lists
+pub mod Nesting
 pub mod Scans
+pub mod Judged

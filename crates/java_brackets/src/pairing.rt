@@ -74,7 +74,6 @@ fn note(partners: &mut Vec<u32>, number: u32, partner: Option<u32>) -> Result<()
 
 impl Scan {
     /// Goes past the next token.
-    #[tactic(auto, using(crate::proofs::Scans::scans))]
     fn take(&mut self, tokens: &[JToken], number: usize) -> Result<(), NoMemory>
         requires within { number < length tokens.now }
         requires few { length tokens.now < 2 ^ 32 }
@@ -87,7 +86,8 @@ impl Scan {
         let flaw = flaw_of(&self.stack, bracket, partner);
         self.first = told(self.first, number, flaw);
         note(&mut self.partners, number, partner)?;
-        pass(&mut self.stack, number, bracket, partner)
+        pass(&mut self.stack, number, bracket, partner)?;
+        Ok(())
     }
 }
 
