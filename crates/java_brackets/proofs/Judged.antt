@@ -26,7 +26,7 @@ pub record NoFlawYet (ts : Tokens) (n : ℕ) : Type 0 where
   pub shallow : IsTooDeep ts n → ⊥
   pub closes : (form : Form) → bracket_at ts n ≡ b.Closes form → IsLonely ts n → ⊥
 
-closing_lonely : (ts : Tokens) (n : ℕ) (form : Form) → bracket_at ts n ≡ b.Closes form → closed_by (open_before ts n) (bracket_at ts n) ≡ None → IsLonely ts n
+pub closing_lonely : (ts : Tokens) (n : ℕ) (form : Form) → bracket_at ts n ≡ b.Closes form → closed_by (open_before ts n) (bracket_at ts n) ≡ None → IsLonely ts n
 closing_lonely ts n form e p =
     let P : Bracket → Type 0 = λ k. IsBracket k in
     (subst P (sym e) tt, λ k partner. elim partner [
@@ -76,7 +76,7 @@ no_flaw_is ts n h =
       Turn.Opens form e g p ↦
         let test = shallow_if (length (open_before ts n) == 200) (sym (opens_at ts n form e) ∙ h) in
         record {
-          shallow = λ deep. let long = deep.1 in let t : (200 == 200) ≡ false = subst {P = λ (k : ℕ). (k == 200) ≡ false} long test in cc (t);
+          shallow = λ deep. let long = deep.1 in let R : ℕ → Type 0 = λ k. (k == 200) ≡ false in let t = subst R long test in cc (t);
           closes = λ k is alone. cc (is, e);
         }
     | Turn.Pairs_with x xs form e f g p ↦ record {
@@ -142,10 +142,10 @@ abbrev pub LeftIs : Tokens → List Opened → Type 0
 LeftIs ts [] = (i : ℕ) (form : Form) → bracket_at ts i ≡ b.Opens form → (j : ℕ) × Pairs ts i j
 LeftIs ts (x ∷ xs) = IsLonely ts x.number × ((i : ℕ) (form : Form) → bracket_at ts i ≡ b.Opens form → IsLonely ts i → x.number ≤ i)
 
-opens_within : (ts : Tokens) (i : ℕ) (form : Form) → bracket_at ts i ≡ b.Opens form → i < length ts
+pub opens_within : (ts : Tokens) (i : ℕ) (form : Form) → bracket_at ts i ≡ b.Opens form → i < length ts
 opens_within ts i form e = bracket_within ts i (λ o. cc (o, e))
 
-left_lonely : (ts : Tokens) (i : ℕ) → Has i (open_before ts (length ts)) → IsLonely ts i
+pub left_lonely : (ts : Tokens) (i : ℕ) → Has i (open_before ts (length ts)) → IsLonely ts i
 left_lonely ts i has =
     let o = has_opens ts (length ts) (open_before ts (length ts)) i (nested ts (length ts)) has in
     let P : Bracket → Type 0 = λ k. IsBracket k in
@@ -161,7 +161,7 @@ left_by : (ts : Tokens) (left : List Opened) → open_before ts (length ts) ≡ 
 left_by ts [] e = λ i form is.
     elim (open_or_paired ts (length ts) i form is (opens_within ts i form is)) [
       inl has ↦ let P : Open → Type 0 = λ ys. Has i ys in absurd (subst P e has)
-    | inr pair ↦ pair
+    | inr pair ↦ (pair.0, pair.2)
     ]
 left_by ts (x ∷ xs) e =
     let is : open_before ts (length ts) ≡ reverse xs ++ x ∷ [] = e ∙ reverse-append (x ∷ []) xs in
@@ -171,7 +171,7 @@ left_by ts (x ∷ xs) e =
         elim (open_or_paired ts (length ts) i form at (opens_within ts i form at)) [
           inl has ↦ let P : Open → Type 0 = λ ys. Has i ys in
             outermost_least ts (length ts) (reverse xs) x i (subst N is (nested ts (length ts))) (subst P is has)
-        | inr pair ↦ absurd (alone.1 pair.0 (inl pair.1))
+        | inr pair ↦ absurd (alone.1 pair.0 (inl pair.2))
         ])
 
 -- ---- the first flaw of all

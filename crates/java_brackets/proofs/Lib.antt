@@ -2,3 +2,5 @@ pub mod Lists
 pub mod Nesting
 pub mod Scans
 pub mod Judged
+pub mod Kept
+pub mod Promises

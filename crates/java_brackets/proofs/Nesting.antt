@@ -164,8 +164,11 @@ unpaired ts (suc n) i j has lt h =
         elim (split_suc j n lt) [ inl less ↦ unpaired ts n i j (subst P g has) less h | inr at ↦ let here = subst Q at h in cc (here, p) ]
     ]
 
+later : (ts : Tokens) (n i : ℕ) → ((j : ℕ) × (j < n) × Pairs ts i j) → (j : ℕ) × (j < suc n) × Pairs ts i j
+later ts n i pair = (pair.0, let lt = pair.1 in omega (arith, lt), pair.2)
+
 -- an opening bracket is open, or it pairs with one before
-pub open_or_paired : (ts : Tokens) (n i : ℕ) (form : Form) → bracket_at ts i ≡ b.Opens form → i < n → Has i (open_before ts n) ⊎ ((j : ℕ) × Pairs ts i j)
+pub open_or_paired : (ts : Tokens) (n i : ℕ) (form : Form) → bracket_at ts i ≡ b.Opens form → i < n → Has i (open_before ts n) ⊎ ((j : ℕ) × (j < n) × Pairs ts i j)
 open_or_paired ts zero i form is lt = absurd (omega (arith, lt))
 open_or_paired ts (suc n) i form is lt =
     let P : Open → Type 0 = λ ys. Has i ys in
@@ -173,28 +176,28 @@ open_or_paired ts (suc n) i form is lt =
     elim (turn ts n) [
       Turn.Opens new e g p ↦
         elim (split_suc i n lt) [
-          inl less ↦ elim (open_or_paired ts n i form is less) [ inl old ↦ inl (subst P (sym g) (inr old)) | inr pair ↦ inr pair ]
+          inl less ↦ elim (open_or_paired ts n i form is less) [ inl old ↦ inl (subst P (sym g) (inr old)) | inr pair ↦ inr (later ts n i pair) ]
         | inr at ↦ inl (subst P (sym g) (inl (sym at)))
         ]
     | Turn.Pairs_with x xs last e f g p ↦
         elim (split_suc i n lt) [
           inl less ↦ elim (open_or_paired ts n i form is less) [
             inl old ↦ elim (subst P f old) [
-              inl same_one ↦ inr (n, let R : ℕ → Type 0 = λ k. Pairs ts k n in subst R same_one p)
+              inl same_one ↦ inr (n, omega arith, let R : ℕ → Type 0 = λ k. Pairs ts k n in subst R same_one p)
             | inr rest ↦ inl (subst P (sym g) rest)
             ]
-          | inr pair ↦ inr pair
+          | inr pair ↦ inr (later ts n i pair)
           ]
         | inr at ↦ let here = subst Q at is in absurd (cc (here, e))
         ]
     | Turn.Closes_none last e g p ↦
         elim (split_suc i n lt) [
-          inl less ↦ elim (open_or_paired ts n i form is less) [ inl old ↦ inl (subst P (sym g) old) | inr pair ↦ inr pair ]
+          inl less ↦ elim (open_or_paired ts n i form is less) [ inl old ↦ inl (subst P (sym g) old) | inr pair ↦ inr (later ts n i pair) ]
         | inr at ↦ let here = subst Q at is in absurd (cc (here, e))
         ]
     | Turn.Passes e g p ↦
         elim (split_suc i n lt) [
-          inl less ↦ elim (open_or_paired ts n i form is less) [ inl old ↦ inl (subst P (sym g) old) | inr pair ↦ inr pair ]
+          inl less ↦ elim (open_or_paired ts n i form is less) [ inl old ↦ inl (subst P (sym g) old) | inr pair ↦ inr (later ts n i pair) ]
         | inr at ↦ let here = subst Q at is in absurd (cc (here, e))
         ]
     ]

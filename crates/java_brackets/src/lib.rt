@@ -2,8 +2,10 @@
 #![tactic(auto)]
 
 mod flaws;
+mod laws;
 mod pairing;
 mod stack;
 
 pub use flaws::{Flaw, Flawed};
+pub use laws::{one_first_flaw, one_partner, pairs_nest};
 pub use pairing::{Paired, Partners, pairs};
