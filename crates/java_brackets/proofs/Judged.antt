@@ -14,7 +14,7 @@ use Rattle.java_brackets.specs.declared.flaws.Flawed.{Flawed}
 use Rattle.java_brackets.specs.declared.pairing.Scan.{Scan}
 use Rattle.java_brackets.specs.Brackets.{bracket_at, Open, closed_by, open_before, Pairs, IsOpening, IsBracket, ArePartners, IsLonely, IsTooDeep, IsFlawed, IsFirstThere, IsFirst, Partnered}
 use Rattle.java_brackets.specs.Steps.{lonely, flaw_of, told, first_before, noted, partners_before, IsScan, first_flaw}
-use Rattle.java_brackets.proofs.Nesting.{Turn, turn, Nested, nested, Has, has_below, has_opens, pairs_has, pairs_below, pairs_opens, pairs_closes, pairs_within, bracket_within, unpaired, open_or_paired}
+use Rattle.java_brackets.proofs.Nesting.{Turn, turn, split_suc, Nested, nested, Has, has_below, has_opens, pairs_has, pairs_below, pairs_opens, pairs_closes, pairs_within, bracket_within, unpaired, open_or_paired}
 use Rattle.java_brackets.proofs.Scans.{length_partners, partners_more, first_more}
 
 -- ---- the flaw that a bracket has as soon as it is read
@@ -28,11 +28,13 @@ pub record NoFlawYet (ts : Tokens) (n : ℕ) : Type 0 where
 
 pub closing_lonely : (ts : Tokens) (n : ℕ) (form : Form) → bracket_at ts n ≡ b.Closes form → closed_by (open_before ts n) (bracket_at ts n) ≡ None → IsLonely ts n
 closing_lonely ts n form e p =
-    let P : Bracket → Type 0 = λ k. IsBracket k in
-    (subst P (sym e) tt, λ k partner. elim partner [
-      inl h ↦ let o = (pairs_opens ts n k h).1 in cc (o, e)
-    | inr h ↦ cc (h, p)
-    ])
+    let P : Bracket → Type 0 = λ k. IsBracket k in (
+      subst P (sym e) tt,
+      λ k partner. elim partner [
+        | inl h ↦ let o = (pairs_opens ts n k h).1 in cc (o, e)
+        | inr h ↦ cc (h, p)
+      ],
+    )
 
 pairs_not_lonely : (ts : Tokens) (i j : ℕ) → Pairs ts i j → IsLonely ts j → ⊥
 pairs_not_lonely ts i j h alone = alone.1 i (inr h)
@@ -58,33 +60,33 @@ flaw_is ts n flaw h =
     let P : Flaw → Type 0 = λ z. IsFlawed ts n z in
     let Q : Bracket → Type 0 = λ k. IsOpening k in
     elim (turn ts n) [
-      Turn.Opens form e g p ↦
-        let d = deep_if (length (open_before ts n) == 200) flaw (sym (opens_at ts n form e) ∙ h) in
-        subst P (sym d.1) (subst Q (sym e) tt, let test = d.0 in grind (arith, common_steps))
-    | Turn.Pairs_with x xs form e f g p ↦ let none = closes_at ts n form (Some x.number) e p in absurd (cc (none, h))
-    | Turn.Closes_none form e g p ↦
-        let some = closes_at ts n form None e p in
-        let is : w.Lonely ≡ flaw = cc (some, h) in
-        subst P is (closing_lonely ts n form e p)
-    | Turn.Passes e g p ↦ let none = ap (λ (k : Bracket). flaw_of (open_before ts n) k) e in absurd (cc (none, h))
+      | Turn.Opens form e g p ↦
+          let d = deep_if (length (open_before ts n) == 200) flaw (sym (opens_at ts n form e) ∙ h) in
+          subst P (sym d.1) (subst Q (sym e) tt, let test = d.0 in grind (arith, common_steps))
+      | Turn.Pairs_with x xs form e f g p ↦ let none = closes_at ts n form (Some x.number) e p in absurd (cc (none, h))
+      | Turn.Closes_none form e g p ↦
+          let some = closes_at ts n form None e p in
+          let is : w.Lonely ≡ flaw = cc (some, h) in
+          subst P is (closing_lonely ts n form e p)
+      | Turn.Passes e g p ↦ let none = ap (λ (k : Bracket). flaw_of (open_before ts n) k) e in absurd (cc (none, h))
     ]
 
 pub no_flaw_is : (ts : Tokens) (n : ℕ) → flaw_at ts n ≡ None → NoFlawYet ts n
 no_flaw_is ts n h =
     let Q : Bracket → Type 0 = λ k. IsOpening k in
     elim (turn ts n) [
-      Turn.Opens form e g p ↦
-        let test = shallow_if (length (open_before ts n) == 200) (sym (opens_at ts n form e) ∙ h) in
-        record {
-          shallow = λ deep. let long = deep.1 in let R : ℕ → Type 0 = λ k. (k == 200) ≡ false in let t = subst R long test in cc (t);
-          closes = λ k is alone. cc (is, e);
-        }
-    | Turn.Pairs_with x xs form e f g p ↦ record {
+      | Turn.Opens form e g p ↦
+          let test = shallow_if (length (open_before ts n) == 200) (sym (opens_at ts n form e) ∙ h) in
+          record {
+            shallow = λ deep. let long = deep.1 in let R : ℕ → Type 0 = λ k. (k == 200) ≡ false in let t = subst R long test in cc (t);
+            closes = λ k is alone. cc (is, e);
+          }
+      | Turn.Pairs_with x xs form e f g p ↦ record {
         shallow = λ deep. subst Q e deep.0;
         closes = λ k is alone. pairs_not_lonely ts x.number n p alone;
       }
-    | Turn.Closes_none form e g p ↦ let some = closes_at ts n form None e p in absurd (cc (some, h))
-    | Turn.Passes e g p ↦ record {
+      | Turn.Closes_none form e g p ↦ let some = closes_at ts n form None e p in absurd (cc (some, h))
+      | Turn.Passes e g p ↦ record {
         shallow = λ deep. subst Q e deep.0;
         closes = λ k is alone. cc (is, e);
       }
@@ -99,16 +101,13 @@ abbrev pub FirstIs : Tokens → ℕ → Option Flawed → Type 0
 FirstIs ts n None = NoneBelow ts n
 FirstIs ts n (Some x) = (x.number < n) × (flaw_at ts x.number ≡ Some x.flaw) × NoneBelow ts x.number
 
-split_suc : (j n : ℕ) → j < suc n → (j < n) ⊎ (j ≡ n)
-split_suc j n h = elim (cases_lt j n) [ inl lt ↦ inl lt | inr ge ↦ inr (omega (arith, h, ge)) ]
-
 told_is : (ts : Tokens) (n : ℕ) (first : Option Flawed) (flaw : Option Flaw) → FirstIs ts n first → flaw_at ts n ≡ flaw → FirstIs ts (suc n) (told first n flaw)
 told_is ts n (Some x) flaw h e = (let lt = h.0 in omega (arith, lt), h.1, h.2)
 told_is ts n None (Some flaw) h e = (omega arith, e, h)
 told_is ts n None None h e = λ k lt. elim (split_suc k n lt) [
-    inl less ↦ h k less
+  | inl less ↦ h k less
   | inr at ↦ let P : ℕ → Type 0 = λ j. flaw_at ts j ≡ None in subst P (sym at) e
-  ]
+]
 
 none_first : (ts : Tokens) → first_before ts zero ≡ None
 unfolding first_before
@@ -133,8 +132,8 @@ outermost_least ts n [] x i h has = elim has [ inl e ↦ omega (arith, e) | inr 
 outermost_least ts n (y ∷ ys) x i h has =
     let deeper = h.3 in
     elim has [
-      inl e ↦ let lt = has_below ts y.number (ys ++ x ∷ []) x.number deeper (has_last ys x) in omega (arith, e, lt)
-    | inr more ↦ outermost_least ts y.number ys x i deeper more
+      | inl e ↦ let lt = has_below ts y.number (ys ++ x ∷ []) x.number deeper (has_last ys x) in omega (arith, e, lt)
+      | inr more ↦ outermost_least ts y.number ys x i deeper more
     ]
 
 -- the brackets that are left open, the outermost first
@@ -148,11 +147,13 @@ opens_within ts i form e = bracket_within ts i (λ o. cc (o, e))
 pub left_lonely : (ts : Tokens) (i : ℕ) → Has i (open_before ts (length ts)) → IsLonely ts i
 left_lonely ts i has =
     let o = has_opens ts (length ts) (open_before ts (length ts)) i (nested ts (length ts)) has in
-    let P : Bracket → Type 0 = λ k. IsBracket k in
-    (subst P (sym o.1) tt, λ k partner. elim partner [
-      inl h ↦ unpaired ts (length ts) i k has (pairs_within ts i k h) h
-    | inr h ↦ let c = pairs_closes ts k i h in let e = c.1 in let f = o.1 in cc (e, f)
-    ])
+    let P : Bracket → Type 0 = λ k. IsBracket k in (
+      subst P (sym o.1) tt,
+      λ k partner. elim partner [
+        | inl h ↦ unpaired ts (length ts) i k has (pairs_within ts i k h) h
+        | inr h ↦ let c = pairs_closes ts k i h in let e = c.1 in let f = o.1 in cc (e, f)
+      ],
+    )
 
 turned : (xs left : Open) → reverse left ≡ xs → left ≡ reverse xs
 turned xs left e = sym (reverse-reverse left) ∙ ap reverse e
@@ -160,19 +161,20 @@ turned xs left e = sym (reverse-reverse left) ∙ ap reverse e
 left_by : (ts : Tokens) (left : List Opened) → open_before ts (length ts) ≡ reverse left → LeftIs ts left
 left_by ts [] e = λ i form is.
     elim (open_or_paired ts (length ts) i form is (opens_within ts i form is)) [
-      inl has ↦ let P : Open → Type 0 = λ ys. Has i ys in absurd (subst P e has)
-    | inr pair ↦ (pair.0, pair.2)
+      | inl has ↦ let P : Open → Type 0 = λ ys. Has i ys in absurd (subst P e has)
+      | inr pair ↦ (pair.0, pair.2)
     ]
 left_by ts (x ∷ xs) e =
     let is : open_before ts (length ts) ≡ reverse xs ++ x ∷ [] = e ∙ reverse-append (x ∷ []) xs in
-    let N : Open → Type 0 = λ ys. Nested ts (length ts) ys in
-    (left_lonely ts x.number (let P : Open → Type 0 = λ ys. Has x.number ys in subst P (sym is) (has_last (reverse xs) x)),
-     λ i form at alone.
-        elim (open_or_paired ts (length ts) i form at (opens_within ts i form at)) [
-          inl has ↦ let P : Open → Type 0 = λ ys. Has i ys in
-            outermost_least ts (length ts) (reverse xs) x i (subst N is (nested ts (length ts))) (subst P is has)
-        | inr pair ↦ absurd (alone.1 pair.0 (inl pair.2))
-        ])
+    let N : Open → Type 0 = λ ys. Nested ts (length ts) ys in (
+      left_lonely ts x.number (let P : Open → Type 0 = λ ys. Has x.number ys in subst P (sym is) (has_last (reverse xs) x)),
+      λ i form at alone.
+          elim (open_or_paired ts (length ts) i form at (opens_within ts i form at)) [
+            | inl has ↦ let P : Open → Type 0 = λ ys. Has i ys in
+                outermost_least ts (length ts) (reverse xs) x i (subst N is (nested ts (length ts))) (subst P is has)
+            | inr pair ↦ absurd (alone.1 pair.0 (inl pair.2))
+          ],
+    )
 
 -- ---- the first flaw of all
 
@@ -213,9 +215,11 @@ early_alone ts n m w.TooDeep lt e opens = λ alone. opening ts n m lt e opens al
 
 early_first : (ts : Tokens) (n m : ℕ) (flaw : Flaw) → n < m → flaw_at ts n ≡ Some flaw → NoneBelow ts n
     → ((i : ℕ) (form : Form) → bracket_at ts i ≡ b.Opens form → IsLonely ts i → m ≤ i) → IsFirst ts n flaw
-early_first ts n m flaw lt e none opens =
-    (flaw_is ts n flaw e, early_alone ts n m flaw lt e (opens n),
-     λ k other less h. fine_below ts n k less none (λ form is alone. let le = opens k form is alone in omega (arith, le, lt)) other h)
+early_first ts n m flaw lt e none opens = (
+  flaw_is ts n flaw e,
+  early_alone ts n m flaw lt e (opens n),
+  λ k other less h. fine_below ts n k less none (λ form is alone. let le = opens k form is alone in omega (arith, le, lt)) other h,
+)
 
 choose : (ts : Tokens) (n : ℕ) (x : Opened) (xs : List Opened) (y : Flawed) → LeftIs ts (x ∷ xs) → FirstIs ts n (Some y) → (v : Bool) → nat_lt y.number x.number ≡ v
     → Told ts (if v then Some y else Some (record { number = x.number; flaw = w.Lonely }))
@@ -236,8 +240,8 @@ past_fine ts n le w.TooDeep h =
 judged : (ts : Tokens) (left : List Opened) (first : Option Flawed) → LeftIs ts left → FirstIs ts (length ts) first → Told ts (first_flaw left first)
 judged ts [] None left first = λ n flaw h.
     elim (cases_lt n (length ts)) [
-      inl lt ↦ fine ts n (no_flaw_is ts n (first n lt)) (λ form e alone. opens_below ts n form left e alone) flaw h
-    | inr ge ↦ past_fine ts n ge flaw h
+      | inl lt ↦ fine ts n (no_flaw_is ts n (first n lt)) (λ form e alone. opens_below ts n form left e alone) flaw h
+      | inr ge ↦ past_fine ts n ge flaw h
     ]
 judged ts [] (Some y) left first =
     early_first ts y.number (suc y.number) y.flaw (omega arith) first.1 first.2 (λ i form e alone. absurd (opens_below ts i form left e alone))

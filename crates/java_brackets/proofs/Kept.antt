@@ -13,7 +13,7 @@ use Rattle.java_brackets.specs.declared.flaws.Flaw.TheVariants as w
 use Rattle.java_brackets.specs.declared.pairing.Scan.{Scan}
 use Rattle.java_brackets.specs.Brackets.{bracket_at, closed_by, open_before, Pairs, IsBracket, ArePartners, IsFlawed, Partnered}
 use Rattle.java_brackets.specs.Steps.{noted, partners_before, IsScan}
-use Rattle.java_brackets.proofs.Nesting.{Turn, turn, pairs_below, pairs_opens, pairs_closes, pairs_within, open_or_paired, closed_once}
+use Rattle.java_brackets.proofs.Nesting.{Turn, turn, split_suc, pairs_below, pairs_opens, pairs_closes, pairs_within, open_or_paired, closed_once}
 use Rattle.java_brackets.proofs.Scans.{length_partners, partners_more}
 use Rattle.java_brackets.proofs.Judged.{closing_lonely, left_lonely, opens_within}
 
@@ -38,9 +38,6 @@ record Kept (ts : Tokens) (n : ℕ) (ps : List ℕ) : Type 0 where
   both : (i j : ℕ) → j < n → Pairs ts i j → (slice_index ps i ≡ j) × (slice_index ps j ≡ i)
   others : (k : ℕ) → k < n → bracket_at ts k ≡ b.Other → slice_index ps k ≡ k
 
-split_suc : (j n : ℕ) → j < suc n → (j < n) ⊎ (j ≡ n)
-split_suc j n h = elim (cases_lt j n) [ inl lt ↦ inl lt | inr ge ↦ inr (omega (arith, h, ge)) ]
-
 -- one that opens isn't one that closes
 pub apart : (ts : Tokens) (i j k l : ℕ) → Pairs ts i j → Pairs ts k l → j ≢ k
 apart ts i j k l g h e =
@@ -53,48 +50,49 @@ kept_none : (ts : Tokens) (n : ℕ) (ps : List ℕ) → Kept ts n ps → closed_
 kept_none ts n ps h none = record {
   long = omega (arith, length-append ps (n ∷ []), h.long);
   both = λ i j lt pair. elim (split_suc j n lt) [
-      inl less ↦
+    | inl less ↦
         let below = pairs_below ts i j pair in
         let were = h.both i j less pair in
         (old_value ps n n i h.long (omega (arith, below, less)) ∙ were.0, old_value ps n n j h.long less ∙ were.1)
     | inr at ↦ let P : ℕ → Type 0 = λ k. Pairs ts i k in let here = subst P at pair in absurd (cc (here, none))
-    ];
+  ];
   others = λ k lt other. elim (split_suc k n lt) [
-      inl less ↦ old_value ps n n k h.long less ∙ h.others k less other
+    | inl less ↦ old_value ps n n k h.long less ∙ h.others k less other
     | inr at ↦ ap (λ (m : ℕ). get_or (ps ++ n ∷ []) m 0) at ∙ (new_value ps n n h.long ∙ sym at)
-    ];
+  ];
 }
 
 kept_some : (ts : Tokens) (n i : ℕ) (ps : List ℕ) → Kept ts n ps → Pairs ts i n → Kept ts (suc n) (slice_set ps i n ++ i ∷ [])
 kept_some ts n i ps h pair = record {
   long = omega (arith, length-append (slice_set ps i n) (i ∷ []), length-set ps i n, h.long);
   both = λ k j lt new. elim (split_suc j n lt) [
-      inl less ↦
+    | inl less ↦
         let below = pairs_below ts k j new in
         let were = h.both k j less new in
         let ne : k ≢ i = λ e.
-            let P : ℕ → Type 0 = λ m. Pairs ts m j in
-            let once = closed_once ts i j n (subst P e new) pair in omega (arith, once, less) in
+        let P : ℕ → Type 0 = λ m. Pairs ts m j in
+        let once = closed_once ts i j n (subst P e new) pair in omega (arith, once, less) in
         (other_value ps n i n i k h.long (omega (arith, below, less)) ne ∙ were.0, other_value ps n i n i j h.long less (apart ts k j i n new pair) ∙ were.1)
     | inr at ↦
         let P : ℕ → Type 0 = λ m. Pairs ts k m in
         let here = subst P at new in
-        let is : k ≡ i = cc (here, pair) in
-        (ap (λ (m : ℕ). get_or (slice_set ps i n ++ i ∷ []) m 0) is ∙ (set_value ps n i n i h.long (pairs_below ts i n pair) ∙ sym at),
-         ap (λ (m : ℕ). get_or (slice_set ps i n ++ i ∷ []) m 0) at ∙ (new_value (slice_set ps i n) n i (length-set ps i n ∙ h.long) ∙ sym is))
-    ];
+        let is : k ≡ i = cc (here, pair) in (
+          ap (λ (m : ℕ). get_or (slice_set ps i n ++ i ∷ []) m 0) is ∙ (set_value ps n i n i h.long (pairs_below ts i n pair) ∙ sym at),
+          ap (λ (m : ℕ). get_or (slice_set ps i n ++ i ∷ []) m 0) at ∙ (new_value (slice_set ps i n) n i (length-set ps i n ∙ h.long) ∙ sym is),
+        )
+  ];
   others = λ k lt other. elim (split_suc k n lt) [
-      inl less ↦
+    | inl less ↦
         let ne : k ≢ i = λ e.
-            let P : ℕ → Type 0 = λ m. bracket_at ts m ≡ b.Other in
-            let at = subst P e other in
-            let o = pairs_opens ts i n pair in let x = o.1 in cc (at, x) in
+        let P : ℕ → Type 0 = λ m. bracket_at ts m ≡ b.Other in
+        let at = subst P e other in
+        let o = pairs_opens ts i n pair in let x = o.1 in cc (at, x) in
         other_value ps n i n i k h.long less ne ∙ h.others k less other
     | inr at ↦
         let P : ℕ → Type 0 = λ m. bracket_at ts m ≡ b.Other in
         let here = subst P at other in
         let c = pairs_closes ts i n pair in let x = c.1 in absurd (cc (here, x))
-    ];
+  ];
 }
 
 kept_more : (ts : Tokens) (n : ℕ) (ps : List ℕ) → Kept ts n ps → (found : Option ℕ) → closed_by (open_before ts n) (bracket_at ts n) ≡ found → Kept ts (suc n) (noted ps n found)
@@ -119,21 +117,21 @@ NoFlaw ts = (n : ℕ) (flaw : Flaw) → IsFlawed ts n flaw → ⊥
 opens_partner : (ts : Tokens) (ps : List ℕ) (n : ℕ) (form : Form) → Kept ts (length ts) ps → NoFlaw ts → bracket_at ts n ≡ b.Opens form → ArePartners ts n (slice_index ps n)
 opens_partner ts ps n form h none e =
     elim (open_or_paired ts (length ts) n form e (opens_within ts n form e)) [
-      inl has ↦ absurd (none n w.Lonely (left_lonely ts n has))
-    | inr pair ↦
-        let P : ℕ → Type 0 = λ k. Pairs ts n k in
-        inl (subst P (sym (h.both n pair.0 (pairs_within ts n pair.0 pair.2) pair.2).0) pair.2)
+      | inl has ↦ absurd (none n w.Lonely (left_lonely ts n has))
+      | inr pair ↦
+          let P : ℕ → Type 0 = λ k. Pairs ts n k in
+          inl (subst P (sym (h.both n pair.0 (pairs_within ts n pair.0 pair.2) pair.2).0) pair.2)
     ]
 
 closes_partner : (ts : Tokens) (ps : List ℕ) (n : ℕ) (form : Form) → Kept ts (length ts) ps → NoFlaw ts → bracket_at ts n ≡ b.Closes form → ArePartners ts n (slice_index ps n)
 closes_partner ts ps n form h none is =
     elim (turn ts n) [
-      Turn.Opens other e g p ↦ absurd (cc (is, e))
-    | Turn.Pairs_with x xs other e f g p ↦
-        let P : ℕ → Type 0 = λ k. Pairs ts k n in
-        inr (subst P (sym (h.both x.number n (pairs_within ts x.number n p) p).1) p)
-    | Turn.Closes_none other e g p ↦ absurd (none n w.Lonely (closing_lonely ts n other e p))
-    | Turn.Passes e g p ↦ absurd (cc (is, e))
+      | Turn.Opens other e g p ↦ absurd (cc (is, e))
+      | Turn.Pairs_with x xs other e f g p ↦
+          let P : ℕ → Type 0 = λ k. Pairs ts k n in
+          inr (subst P (sym (h.both x.number n (pairs_within ts x.number n p) p).1) p)
+      | Turn.Closes_none other e g p ↦ absurd (none n w.Lonely (closing_lonely ts n other e p))
+      | Turn.Passes e g p ↦ absurd (cc (is, e))
     ]
 
 partner_of : (ts : Tokens) (ps : List ℕ) (n : ℕ) → Kept ts (length ts) ps → NoFlaw ts → (k : Bracket) → bracket_at ts n ≡ k → IsBracket k → ArePartners ts n (slice_index ps n)

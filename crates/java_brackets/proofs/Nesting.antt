@@ -1,9 +1,10 @@
 -- How open brackets lie within one another, and which of them pair.
-use Rattle.std.proofs.Common.{◌≡◌, ◌<◌, ◌≤◌, ◌+◌, ◌⊎◌, ℕ, zero, suc, Bool, true, false, List, [], ◌∷◌, ◌++◌, length, slice_get, Option, Some, None, refl, sym, ap, subst, ◌∙◌, inl, inr, arith}
+use Rattle.std.proofs.Common.{◌≡◌, ◌<◌, ◌≤◌, ◌+◌, ◌⊎◌, ℕ, zero, suc, Bool, true, false, if◌then◌else◌, List, [], ◌∷◌, ◌++◌, length, slice_get, Option, Some, None, refl, sym, ap, subst, ◌∙◌, inl, inr, arith}
 use Rattle.std.proofs.lemmas.Option.{slice_get_past}
 use Rattle.std.proofs.lemmas.Bool.{cases_lt}
 use Rattle.java_tree.specs.Seen.{Token, Tokens}
 use Rattle.java_brackets.specs.declared.stack.Form.{Form}
+use Rattle.java_brackets.specs.declared.stack.Form.TheVariants as f
 use Rattle.java_brackets.specs.declared.stack.Bracket.{Bracket}
 use Rattle.java_brackets.specs.declared.stack.Bracket.TheVariants as b
 use Rattle.java_brackets.specs.declared.stack.Opened.{Opened}
@@ -67,13 +68,13 @@ nested ts (suc n) =
     let P : Open → Type 0 = λ xs. Nested ts (suc n) xs in
     let before = nested ts n in
     elim (turn ts n) [
-      Turn.Opens form e g p ↦ subst P (sym g) (omega arith, e, refl, before)
-    | Turn.Pairs_with x xs form e f g p ↦
-        let Q : Open → Type 0 = λ ys. Nested ts n ys in
-        let at = subst Q f before in
-        subst P (sym g) (wider ts x.number (suc n) xs (let lt = at.0 in omega (arith, lt)) at.3)
-    | Turn.Closes_none form e g p ↦ subst P (sym g) (wider ts n (suc n) (open_before ts n) (omega arith) before)
-    | Turn.Passes e g p ↦ subst P (sym g) (wider ts n (suc n) (open_before ts n) (omega arith) before)
+      | Turn.Opens form e g p ↦ subst P (sym g) (omega arith, e, refl, before)
+      | Turn.Pairs_with x xs form e f g p ↦
+          let Q : Open → Type 0 = λ ys. Nested ts n ys in
+          let at = subst Q f before in
+          subst P (sym g) (wider ts x.number (suc n) xs (let lt = at.0 in omega (arith, lt)) at.3)
+      | Turn.Closes_none form e g p ↦ subst P (sym g) (wider ts n (suc n) (open_before ts n) (omega arith) before)
+      | Turn.Passes e g p ↦ subst P (sym g) (wider ts n (suc n) (open_before ts n) (omega arith) before)
     ]
 
 -- the token i is one of those that are open
@@ -97,13 +98,13 @@ has_opens ts n (x ∷ xs) i h has =
 pub pairs_has : (ts : Tokens) (i j : ℕ) → Pairs ts i j → Has i (open_before ts j)
 pairs_has ts i j h =
     elim (turn ts j) [
-      Turn.Opens form e g p ↦ absurd (cc (h, p))
-    | Turn.Pairs_with x xs form e f g p ↦
-        let P : Open → Type 0 = λ ys. Has i ys in
-        let same_one : x.number ≡ i = cc (h, p) in
-        subst P (sym f) (inl same_one)
-    | Turn.Closes_none form e g p ↦ absurd (cc (h, p))
-    | Turn.Passes e g p ↦ absurd (cc (h, p))
+      | Turn.Opens form e g p ↦ absurd (cc (h, p))
+      | Turn.Pairs_with x xs form e f g p ↦
+          let P : Open → Type 0 = λ ys. Has i ys in
+          let same_one : x.number ≡ i = cc (h, p) in
+          subst P (sym f) (inl same_one)
+      | Turn.Closes_none form e g p ↦ absurd (cc (h, p))
+      | Turn.Passes e g p ↦ absurd (cc (h, p))
     ]
 
 pub pairs_below : (ts : Tokens) (i j : ℕ) → Pairs ts i j → i < j
@@ -115,10 +116,10 @@ pairs_opens ts i j h = has_opens ts j (open_before ts j) i (nested ts j) (pairs_
 pub pairs_closes : (ts : Tokens) (i j : ℕ) → Pairs ts i j → (form : Form) × (bracket_at ts j ≡ b.Closes form)
 pairs_closes ts i j h =
     elim (turn ts j) [
-      Turn.Opens form e g p ↦ absurd (cc (h, p))
-    | Turn.Pairs_with x xs form e f g p ↦ (form, e)
-    | Turn.Closes_none form e g p ↦ absurd (cc (h, p))
-    | Turn.Passes e g p ↦ absurd (cc (h, p))
+      | Turn.Opens form e g p ↦ absurd (cc (h, p))
+      | Turn.Pairs_with x xs form e f g p ↦ (form, e)
+      | Turn.Closes_none form e g p ↦ absurd (cc (h, p))
+      | Turn.Passes e g p ↦ absurd (cc (h, p))
     ]
 
 past_end : (ts : Tokens) (n : ℕ) → length ts ≤ n → bracket_at ts n ≡ b.Other
@@ -131,7 +132,7 @@ bracket_within ts n h = elim (cases_lt n (length ts)) [ inl lt ↦ lt | inr ge �
 pub pairs_within : (ts : Tokens) (i j : ℕ) → Pairs ts i j → j < length ts
 pairs_within ts i j h = let c = pairs_closes ts i j h in bracket_within ts j (λ e. let k = c.1 in cc (k, e))
 
-split_suc : (j n : ℕ) → j < suc n → (j < n) ⊎ (j ≡ n)
+pub split_suc : (j n : ℕ) → j < suc n → (j < n) ⊎ (j ≡ n)
 split_suc j n h = elim (cases_lt j n) [ inl lt ↦ inl lt | inr ge ↦ inr (omega (arith, h, ge)) ]
 
 -- one that is open pairs with none before
@@ -141,27 +142,27 @@ unpaired ts (suc n) i j has lt h =
     let P : Open → Type 0 = λ ys. Has i ys in
     let Q : ℕ → Type 0 = λ k. Pairs ts i k in
     elim (turn ts n) [
-      Turn.Opens form e g p ↦
-        let now = subst P g has in
-        elim now [
-          inl is ↦ let below = pairs_below ts i j h in omega (arith, is, below, lt)
-        | inr old ↦ elim (split_suc j n lt) [ inl less ↦ unpaired ts n i j old less h | inr at ↦ let here = subst Q at h in cc (here, p) ]
-        ]
-    | Turn.Pairs_with x xs form e f g p ↦
-        let now = subst P g has in
-        elim (split_suc j n lt) [
-          inl less ↦ unpaired ts n i j (subst P (sym f) (inr now)) less h
-        | inr at ↦
-            let here = subst Q at h in
-            let is : x.number ≡ i = cc (here, p) in
-            let R : Open → Type 0 = λ ys. Nested ts n ys in
-            let below = has_below ts x.number xs i (subst R f (nested ts n)).3 now in
-            omega (arith, is, below)
-        ]
-    | Turn.Closes_none form e g p ↦
-        elim (split_suc j n lt) [ inl less ↦ unpaired ts n i j (subst P g has) less h | inr at ↦ let here = subst Q at h in cc (here, p) ]
-    | Turn.Passes e g p ↦
-        elim (split_suc j n lt) [ inl less ↦ unpaired ts n i j (subst P g has) less h | inr at ↦ let here = subst Q at h in cc (here, p) ]
+      | Turn.Opens form e g p ↦
+          let now = subst P g has in
+          elim now [
+            | inl is ↦ let below = pairs_below ts i j h in omega (arith, is, below, lt)
+            | inr old ↦ elim (split_suc j n lt) [ inl less ↦ unpaired ts n i j old less h | inr at ↦ let here = subst Q at h in cc (here, p) ]
+          ]
+      | Turn.Pairs_with x xs form e f g p ↦
+          let now = subst P g has in
+          elim (split_suc j n lt) [
+            | inl less ↦ unpaired ts n i j (subst P (sym f) (inr now)) less h
+            | inr at ↦
+                let here = subst Q at h in
+                let is : x.number ≡ i = cc (here, p) in
+                let R : Open → Type 0 = λ ys. Nested ts n ys in
+                let below = has_below ts x.number xs i (subst R f (nested ts n)).3 now in
+                omega (arith, is, below)
+          ]
+      | Turn.Closes_none form e g p ↦
+          elim (split_suc j n lt) [ inl less ↦ unpaired ts n i j (subst P g has) less h | inr at ↦ let here = subst Q at h in cc (here, p) ]
+      | Turn.Passes e g p ↦
+          elim (split_suc j n lt) [ inl less ↦ unpaired ts n i j (subst P g has) less h | inr at ↦ let here = subst Q at h in cc (here, p) ]
     ]
 
 later : (ts : Tokens) (n i : ℕ) → ((j : ℕ) × (j < n) × Pairs ts i j) → (j : ℕ) × (j < suc n) × Pairs ts i j
@@ -174,32 +175,32 @@ open_or_paired ts (suc n) i form is lt =
     let P : Open → Type 0 = λ ys. Has i ys in
     let Q : ℕ → Type 0 = λ k. bracket_at ts k ≡ b.Opens form in
     elim (turn ts n) [
-      Turn.Opens new e g p ↦
-        elim (split_suc i n lt) [
-          inl less ↦ elim (open_or_paired ts n i form is less) [ inl old ↦ inl (subst P (sym g) (inr old)) | inr pair ↦ inr (later ts n i pair) ]
-        | inr at ↦ inl (subst P (sym g) (inl (sym at)))
-        ]
-    | Turn.Pairs_with x xs last e f g p ↦
-        elim (split_suc i n lt) [
-          inl less ↦ elim (open_or_paired ts n i form is less) [
-            inl old ↦ elim (subst P f old) [
-              inl same_one ↦ inr (n, omega arith, let R : ℕ → Type 0 = λ k. Pairs ts k n in subst R same_one p)
-            | inr rest ↦ inl (subst P (sym g) rest)
-            ]
-          | inr pair ↦ inr (later ts n i pair)
+      | Turn.Opens new e g p ↦
+          elim (split_suc i n lt) [
+            | inl less ↦ elim (open_or_paired ts n i form is less) [ inl old ↦ inl (subst P (sym g) (inr old)) | inr pair ↦ inr (later ts n i pair) ]
+            | inr at ↦ inl (subst P (sym g) (inl (sym at)))
           ]
-        | inr at ↦ let here = subst Q at is in absurd (cc (here, e))
-        ]
-    | Turn.Closes_none last e g p ↦
-        elim (split_suc i n lt) [
-          inl less ↦ elim (open_or_paired ts n i form is less) [ inl old ↦ inl (subst P (sym g) old) | inr pair ↦ inr (later ts n i pair) ]
-        | inr at ↦ let here = subst Q at is in absurd (cc (here, e))
-        ]
-    | Turn.Passes e g p ↦
-        elim (split_suc i n lt) [
-          inl less ↦ elim (open_or_paired ts n i form is less) [ inl old ↦ inl (subst P (sym g) old) | inr pair ↦ inr (later ts n i pair) ]
-        | inr at ↦ let here = subst Q at is in absurd (cc (here, e))
-        ]
+      | Turn.Pairs_with x xs last e f g p ↦
+          elim (split_suc i n lt) [
+            | inl less ↦ elim (open_or_paired ts n i form is less) [
+              | inl old ↦ elim (subst P f old) [
+                | inl same_one ↦ inr (n, omega arith, let R : ℕ → Type 0 = λ k. Pairs ts k n in subst R same_one p)
+                | inr rest ↦ inl (subst P (sym g) rest)
+              ]
+              | inr pair ↦ inr (later ts n i pair)
+            ]
+            | inr at ↦ let here = subst Q at is in absurd (cc (here, e))
+          ]
+      | Turn.Closes_none last e g p ↦
+          elim (split_suc i n lt) [
+            | inl less ↦ elim (open_or_paired ts n i form is less) [ inl old ↦ inl (subst P (sym g) old) | inr pair ↦ inr (later ts n i pair) ]
+            | inr at ↦ let here = subst Q at is in absurd (cc (here, e))
+          ]
+      | Turn.Passes e g p ↦
+          elim (split_suc i n lt) [
+            | inl less ↦ elim (open_or_paired ts n i form is less) [ inl old ↦ inl (subst P (sym g) old) | inr pair ↦ inr (later ts n i pair) ]
+            | inr at ↦ let here = subst Q at is in absurd (cc (here, e))
+          ]
     ]
 
 -- a bracket pairs with one at most
@@ -209,9 +210,58 @@ closes_one ts i j k g h = cc (g, h)
 pub closed_once : (ts : Tokens) (i j k : ℕ) → Pairs ts i j → Pairs ts i k → j ≡ k
 closed_once ts i j k g h =
     elim (cases_lt j k) [
-      inl less ↦ absurd (unpaired ts k i j (pairs_has ts i k h) less g)
-    | inr ge ↦ elim (cases_lt k j) [
-        inl less ↦ absurd (unpaired ts j i k (pairs_has ts i j g) less h)
-      | inr le ↦ omega (arith, ge, le)
+      | inl less ↦ absurd (unpaired ts k i j (pairs_has ts i k h) less g)
+      | inr ge ↦ elim (cases_lt k j) [
+        | inl less ↦ absurd (unpaired ts j i k (pairs_has ts i j g) less h)
+        | inr le ↦ omega (arith, ge, le)
       ]
     ]
+
+-- ---- both of a pair have one form
+
+same_form : (one other : Form) → same one other ≡ true → one ≡ other
+same_form f.Round f.Round h = refl
+same_form f.Square f.Square h = refl
+same_form f.Curly f.Curly h = refl
+same_form f.Round f.Square h = absurd (cc)
+same_form f.Round f.Curly h = absurd (cc)
+same_form f.Square f.Round h = absurd (cc)
+same_form f.Square f.Curly h = absurd (cc)
+same_form f.Curly f.Round h = absurd (cc)
+same_form f.Curly f.Square h = absurd (cc)
+
+record Closed (xs : Open) (k : Bracket) (i : ℕ) : Type 0 where
+  one : Opened
+  rest : Open
+  first : xs ≡ one ∷ rest
+  number : one.number ≡ i
+  form : k ≡ b.Closes one.form
+
+closed_if : (x : Opened) (xs : Open) (form : Form) (i : ℕ) (v : Bool) → same x.form form ≡ v → (if v then Some x.number else None) ≡ Some i
+    → Closed (x ∷ xs) (b.Closes form) i
+closed_if x xs form i true h e = record {
+  one = x;
+  rest = xs;
+  first = refl;
+  number = cc (e);
+  form = ap (λ (z : Form). b.Closes z) (sym (same_form x.form form h));
+}
+closed_if x xs form i false h e = absurd (cc (e))
+
+closed_as : (xs : Open) (k : Bracket) (i : ℕ) → closed_by xs k ≡ Some i → Closed xs k i
+closed_as [] (b.Opens form) i h = absurd (cc)
+closed_as [] (b.Closes form) i h = absurd (cc)
+closed_as [] b.Other i h = absurd (cc)
+closed_as (x ∷ xs) (b.Opens form) i h = absurd (cc)
+closed_as (x ∷ xs) b.Other i h = absurd (cc)
+closed_as (x ∷ xs) (b.Closes form) i h = closed_if x xs form i (same x.form form) refl h
+
+pub pair_forms : (ts : Tokens) (i j : ℕ) → Pairs ts i j → (form : Form) × (bracket_at ts i ≡ b.Opens form) × (bracket_at ts j ≡ b.Closes form)
+pair_forms ts i j h =
+    let c = closed_as (open_before ts j) (bracket_at ts j) i h in
+    let N : Open → Type 0 = λ ys. Nested ts j ys in
+    let P : ℕ → Type 0 = λ k. bracket_at ts k ≡ b.Opens c.one.form in
+    (c.one.form, subst P c.number (subst N c.first (nested ts j)).1, c.form)
+
+pub pair_places : (ts : Tokens) (i j : ℕ) → Pairs ts i j → (i < j) × (j < length ts)
+pair_places ts i j h = (pairs_below ts i j h, pairs_within ts i j h)

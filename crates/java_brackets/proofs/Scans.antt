@@ -56,7 +56,7 @@ scan_partner ts n scan kind partner s e h =
     let Q : ℕ → Type 0 = λ k. IfSome (closed_by (open_before ts n) (bracket_at ts n)) (λ i. i < k) in
     let long : n ≡ length scan.partners.items = sym (ap length s.partners ∙ length_partners ts n) in
     let is : closed_by (open_before ts n) (bracket_at ts n) ≡ partner =
-        ap (λ (z : Open). closed_by z (bracket_at ts n)) (sym s.stack) ∙ (ap (λ (z : Bracket). closed_by (reverse scan.stack.items) z) e ∙ sym h) in
+    ap (λ (z : Open). closed_by z (bracket_at ts n)) (sym s.stack) ∙ (ap (λ (z : Bracket). closed_by (reverse scan.stack.items) z) e ∙ sym h) in
     subst P is (subst Q long (partner_below ts n))
 
 open_more : (ts : Tokens) (n : ℕ) → open_before ts (suc n) ≡ after (open_before ts n) n (bracket_at ts n)

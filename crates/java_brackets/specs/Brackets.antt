@@ -109,4 +109,4 @@ pub record Partnered (ts : Tokens) (numbers : List ℕ) : Type 0 where
 -- the first flaw, or that there is none and all partners
 abbrev pub IsPaired : Tokens → Paired → Type 0
 IsPaired ts (p.Flawed x) = IsFirst ts x.number x.flaw
-IsPaired ts (p.Pairs x) = ((n : ℕ) (flaw : Flaw) → ¬ IsFlawed ts n flaw) × Partnered ts x.numbers.items
+IsPaired ts (p.Pairs x) = ((n : ℕ) (flaw : Flaw) → ¬ IsFlawed ts n flaw) × Partnered ts x

@@ -10,19 +10,28 @@ use crate::stack::{Bracket, Opened, bracket_of, closed_by, first_flaw, flaw_of, 
 use j2k_base::NoMemory;
 use java_tree::JToken;
 use std::alloc::Global;
+use std::marker::Model;
 
-/// The partners of brackets: for each token the number of the one that it pairs with, its own where
-/// it is no bracket.
+/// The partners of brackets, seen by contracts as a list: for each token the number of the one that it
+/// pairs with, its own where it is no bracket.
 #[derive(Debug, Drop)]
 pub struct Partners {
     numbers: Vec<u32>,
 }
 
+impl Model for Partners {
+    ghost use Rattle.std.specs.Prelude.{List, ℕ};
+
+    ghost Value = { List ℕ };
+
+    ghost view = { λ a. a.numbers.items };
+}
+
 impl Partners {
     /// The number of the token that the token of a number pairs with.
     pub fn get(&self, at: usize) -> usize
-        requires { at < length self.now.numbers.items }
-        ensures { result ≡ slice_index self.now.numbers.items at }
+        requires { at < length self.now }
+        ensures { result ≡ slice_index self.now at }
     {
         self.numbers[at] as usize
     }

@@ -29,7 +29,7 @@ pub enum Bracket {
 }
 
 /// An opening bracket, and the number of its token.
-#[derive(Clone, Copy, Drop)]
+#[derive(Clone, Copy)]
 pub struct Opened {
     pub number: u32,
     pub form: Form,
@@ -78,7 +78,12 @@ pub fn closed_by(stack: &[Opened], bracket: Bracket) -> Option<u32>
 
 /// Those that are open behind a bracket.
 #[tactic(auto, using(crate::proofs::Lists::lists))]
-pub fn pass(stack: &mut Vec<Opened>, number: u32, bracket: Bracket, partner: Option<u32>) -> Result<(), NoMemory>
+pub fn pass(
+    stack: &mut Vec<Opened>,
+    number: u32,
+    bracket: Bracket,
+    partner: Option<u32>,
+) -> Result<(), NoMemory>
     requires { partner ≡ b.closed_by (reverse stack.old.items) bracket }
     ensures { IfOk result (λ _. reverse stack.new.items ≡ b.after (reverse stack.old.items) number bracket) }
 {

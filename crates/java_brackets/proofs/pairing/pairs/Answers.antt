@@ -14,7 +14,7 @@ returns-in-Some c =
     let Q : Option Flawed → Type 0 = λ x. Told (seen c.args.tokens.now) x in
     let stack : c.deref.result.now ≡ c.in_ok-scan.scan.stack.items = c.deref.ensures.value in
     let is : first_flaw c.in_ok-scan.scan.stack.items c.in_ok-scan.scan.first ≡ Some c.in-Some.flawed =
-        ap (λ (left : List Opened). first_flaw left c.in_ok-scan.scan.first) (sym stack) ∙ (sym c.first_flaw.ensures ∙ c.in-Some.is) in
+    ap (λ (left : List Opened). first_flaw left c.in_ok-scan.scan.first) (sym stack) ∙ (sym c.first_flaw.ensures ∙ c.in-Some.is) in
     subst Q is (scan_judged (seen c.args.tokens.now) c.in_ok-scan.scan scan)
 
 pub returns-in-None : goal.returns-in-None
@@ -24,6 +24,6 @@ returns-in-None c =
     let Q : Option Flawed → Type 0 = λ x. Told (seen c.args.tokens.now) x in
     let stack : c.deref.result.now ≡ c.in_ok-scan.scan.stack.items = c.deref.ensures.value in
     let is : first_flaw c.in_ok-scan.scan.stack.items c.in_ok-scan.scan.first ≡ None =
-        ap (λ (left : List Opened). first_flaw left c.in_ok-scan.scan.first) (sym stack) ∙ (sym c.first_flaw.ensures ∙ c.in-None.is) in
+    ap (λ (left : List Opened). first_flaw left c.in_ok-scan.scan.first) (sym stack) ∙ (sym c.first_flaw.ensures ∙ c.in-None.is) in
     let none = subst Q is (scan_judged (seen c.args.tokens.now) c.in_ok-scan.scan scan) in
     (none, scan_partners (seen c.args.tokens.now) c.in_ok-scan.scan scan none)
