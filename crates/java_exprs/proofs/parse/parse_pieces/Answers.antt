@@ -1,8 +1,8 @@
 use Rattle.std.proofs.Common.{rules, arith, ◌≡◌, ◌∙◌, ap, []}
 use Rattle.std.proofs.lemmas.Grind.{common_steps}
 use Rattle.java_pieces.specs.Shown.{shown}
-use Rattle.java_parse.proofs.Parsed.{spelled_whole, shown_none}
-use Rattle.java_parse.proofs.exprs.parse_pieces.Goals as goal
+use Rattle.java_exprs.proofs.Parsed.{spelled_whole, shown_none}
+use Rattle.java_exprs.proofs.parse.parse_pieces.Goals as goal
 
 pub returns-then-is_empty : goal.returns-then-is_empty
 returns-then-is_empty c =

@@ -1,4 +1,4 @@
-//! Expressions.
+//! The one call.
 
 ghost use Rattle.std.specs.Prelude.{◌≡◌, ◌≤◌, length, IfOk, MatchOption};
 ghost use Rattle.java_tree.specs.Seen.{between};
@@ -6,8 +6,8 @@ ghost use Rattle.java_tree.specs.Seen as t;
 ghost use Rattle.java_tree.specs.Trees.{JSpells, JSpellsNone};
 ghost use Rattle.java_pieces.specs.Shown.{shown};
 
+use crate::climb::read;
 use j2k_base::NoMemory;
-use java_exprs::read;
 use java_pieces::{Pieces, pieces};
 use java_tree::{JExpr, Tokens};
 use std::alloc::Global;
