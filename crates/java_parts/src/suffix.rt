@@ -127,20 +127,11 @@ pub fn level(op: BinaryOp) -> usize
         BinaryOp::BitOr => 6,
         BinaryOp::BitXor => 7,
         BinaryOp::BitAnd => 8,
-        BinaryOp::Equal
-        | BinaryOp::NotEqual => 9,
-        BinaryOp::Less
-        | BinaryOp::LessEqual
-        | BinaryOp::Greater
-        | BinaryOp::GreaterEqual(_) => 10,
-        BinaryOp::ShiftLeft
-        | BinaryOp::ShiftRight(_)
-        | BinaryOp::ShiftUnsigned(_, _) => 11,
-        BinaryOp::Add
-        | BinaryOp::Subtract => 12,
-        BinaryOp::Multiply
-        | BinaryOp::Divide
-        | BinaryOp::Remainder => 13,
+        BinaryOp::Equal | BinaryOp::NotEqual => 9,
+        BinaryOp::Less | BinaryOp::LessEqual | BinaryOp::Greater | BinaryOp::GreaterEqual(_) => 10,
+        BinaryOp::ShiftLeft | BinaryOp::ShiftRight(_) | BinaryOp::ShiftUnsigned(_, _) => 11,
+        BinaryOp::Add | BinaryOp::Subtract => 12,
+        BinaryOp::Multiply | BinaryOp::Divide | BinaryOp::Remainder => 13,
     }
 }
 
