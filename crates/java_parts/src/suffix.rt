@@ -118,6 +118,7 @@ pub fn next_suffix<'a>(pieces: Pieces<'a>) -> Option<(Suffix, Pieces<'a>)>
     }
 }
 
+/// The level of the form that the operator makes: 4 for `||` up to 13 for `*`.
 pub fn level(op: BinaryOp) -> usize
     ensures { result ≡ s.level op }
 {
@@ -135,6 +136,7 @@ pub fn level(op: BinaryOp) -> usize
     }
 }
 
+/// The level of the form that the suffix makes.
 pub fn strength(suffix: Suffix) -> usize
     ensures { result ≡ r.strength suffix }
 {
@@ -166,8 +168,9 @@ pub fn top(e: &JExpr) -> usize
     }
 }
 
+/// Whether it may stand before an assignment operator (JLS 15.26).
 #[tactic(auto, unfolding(java_tree::specs::Trees::is_left))]
-pub fn is_left(e: &JExpr) -> bool
+fn is_left(e: &JExpr) -> bool
     ensures { result ≡ s.is_left e.now }
 {
     match e {
@@ -232,6 +235,7 @@ pub fn takes(suffix: Suffix, left: &JExpr) -> bool
     }
 }
 
+/// The operator that the mark is before an operand.
 pub fn prefix(mark: Mark) -> Option<PrefixOp>
     ensures { result ≡ r.prefix_by mark }
 {
