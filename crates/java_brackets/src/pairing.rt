@@ -28,6 +28,13 @@ impl Model for Partners {
 }
 
 impl Partners {
+    /// How many tokens there are.
+    pub fn len(&self) -> usize
+        ensures { result ≡ length self.now }
+    {
+        self.numbers.len()
+    }
+
     /// The number of the token that the token of a number pairs with.
     pub fn get(&self, at: usize) -> usize
         requires { at < length self.now }
