@@ -1,9 +1,9 @@
 -- What a whole scan tells: the first flaw, or all partners.
-use Rattle.std.proofs.Common.{◌≡◌, ◌<◌, ◌≤◌, ◌+◌, ◌⊎◌, ◌==◌, ℕ, zero, suc, Bool, true, false, nat_lt, if◌then◌else◌, List, [], ◌∷◌, ◌++◌, length, reverse, slice_index, slice_set, Option, Some, None, refl, sym, ap, subst, ◌∙◌, inl, inr, arith}
-use Rattle.std.proofs.lemmas.List.{reverse-append, reverse-reverse, length-set}
+use Rattle.std.proofs.Common.{◌≡◌, ◌<◌, ◌≤◌, ◌==◌, ℕ, zero, suc, Bool, true, false, nat_lt, if◌then◌else◌, List, [], ◌∷◌, ◌++◌, length, reverse, Option, Some, None, refl, sym, ap, subst, ◌∙◌, inl, inr, arith}
+use Rattle.std.proofs.lemmas.List.{reverse-append, reverse-reverse}
 use Rattle.std.proofs.lemmas.Grind.{common_steps}
 use Rattle.std.proofs.lemmas.Bool.{cases_lt}
-use Rattle.java_tree.specs.Seen.{Token, Tokens}
+use Rattle.java_tree.specs.Seen.{Tokens}
 use Rattle.java_brackets.specs.declared.stack.Form.{Form}
 use Rattle.java_brackets.specs.declared.stack.Bracket.{Bracket}
 use Rattle.java_brackets.specs.declared.stack.Bracket.TheVariants as b
@@ -12,10 +12,10 @@ use Rattle.java_brackets.specs.declared.flaws.Flaw.{Flaw}
 use Rattle.java_brackets.specs.declared.flaws.Flaw.TheVariants as w
 use Rattle.java_brackets.specs.declared.flaws.Flawed.{Flawed}
 use Rattle.java_brackets.specs.declared.pairing.Scan.{Scan}
-use Rattle.java_brackets.specs.Brackets.{bracket_at, Open, closed_by, open_before, Pairs, IsOpening, IsBracket, ArePartners, IsLonely, IsTooDeep, IsFlawed, IsFirstThere, IsFirst, Partnered}
-use Rattle.java_brackets.specs.Steps.{lonely, flaw_of, told, first_before, noted, partners_before, IsScan, first_flaw}
-use Rattle.java_brackets.proofs.Nesting.{Turn, turn, split_suc, Nested, nested, Has, has_below, has_opens, pairs_has, pairs_below, pairs_opens, pairs_closes, pairs_within, bracket_within, unpaired, open_or_paired}
-use Rattle.java_brackets.proofs.Scans.{length_partners, partners_more, first_more}
+use Rattle.java_brackets.specs.Brackets.{bracket_at, Open, closed_by, open_before, Pairs, IsOpening, IsBracket, IsLonely, IsTooDeep, IsFlawed, IsFirstThere, IsFirst}
+use Rattle.java_brackets.specs.Steps.{lonely, flaw_of, told, first_before, IsScan, first_flaw}
+use Rattle.java_brackets.proofs.Nesting.{Turn, turn, split_suc, Nested, nested, Has, has_below, has_opens, pairs_opens, pairs_closes, pairs_within, bracket_within, unpaired, open_or_paired}
+use Rattle.java_brackets.proofs.Scans.{first_more}
 
 -- ---- the flaw that a bracket has as soon as it is read
 

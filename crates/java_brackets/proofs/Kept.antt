@@ -1,10 +1,9 @@
 -- The partners that a scan notes.
-use Rattle.std.proofs.Common.{◌≡◌, ◌≢◌, ◌<◌, ◌≤◌, ◌+◌, ◌⊎◌, ℕ, zero, suc, List, [], ◌∷◌, ◌++◌, length, map, get_or, slice_index, slice_set, Option, Some, None, refl, sym, ap, subst, ◌∙◌, inl, inr, arith, get_or-set_other, get_or-set_same}
+use Rattle.std.proofs.Common.{◌≡◌, ◌≢◌, ◌<◌, ℕ, zero, suc, List, [], ◌∷◌, ◌++◌, length, get_or, slice_index, slice_set, Option, Some, None, refl, sym, ap, subst, ◌∙◌, inl, inr, arith}
 use Rattle.std.proofs.lemmas.List.{length-append, length-set, length-map}
 use Rattle.std.proofs.lemmas.Grind.{common_steps}
-use Rattle.std.proofs.lemmas.Bool.{cases_lt}
 use Rattle.java_tree.specs.declared.tokens.JToken.{JToken}
-use Rattle.java_tree.specs.Seen.{Token, Tokens, seen, token_seen}
+use Rattle.java_tree.specs.Seen.{Tokens, seen, token_seen}
 use Rattle.java_brackets.specs.declared.stack.Form.{Form}
 use Rattle.java_brackets.specs.declared.stack.Bracket.{Bracket}
 use Rattle.java_brackets.specs.declared.stack.Bracket.TheVariants as b
@@ -14,7 +13,7 @@ use Rattle.java_brackets.specs.declared.pairing.Scan.{Scan}
 use Rattle.java_brackets.specs.Brackets.{bracket_at, closed_by, open_before, Pairs, IsBracket, ArePartners, IsFlawed, Partnered}
 use Rattle.java_brackets.specs.Steps.{noted, partners_before, IsScan}
 use Rattle.java_brackets.proofs.Nesting.{Turn, turn, split_suc, pairs_below, pairs_opens, pairs_closes, pairs_within, open_or_paired, closed_once}
-use Rattle.java_brackets.proofs.Scans.{length_partners, partners_more}
+use Rattle.java_brackets.proofs.Scans.{partners_more}
 use Rattle.java_brackets.proofs.Judged.{closing_lonely, left_lonely, opens_within}
 
 pub length_seen : (xs : List JToken) → length (seen xs) ≡ length xs

@@ -1,8 +1,8 @@
 -- How open brackets lie within one another, and which of them pair.
-use Rattle.std.proofs.Common.{◌≡◌, ◌<◌, ◌≤◌, ◌+◌, ◌⊎◌, ℕ, zero, suc, Bool, true, false, if◌then◌else◌, List, [], ◌∷◌, ◌++◌, length, slice_get, Option, Some, None, refl, sym, ap, subst, ◌∙◌, inl, inr, arith}
+use Rattle.std.proofs.Common.{◌≡◌, ◌<◌, ◌≤◌, ◌⊎◌, ℕ, zero, suc, Bool, true, false, if◌then◌else◌, [], ◌∷◌, length, Some, None, refl, sym, ap, subst, ◌∙◌, inl, inr, arith}
 use Rattle.std.proofs.lemmas.Option.{slice_get_past}
 use Rattle.std.proofs.lemmas.Bool.{cases_lt}
-use Rattle.java_tree.specs.Seen.{Token, Tokens}
+use Rattle.java_tree.specs.Seen.{Tokens}
 use Rattle.java_brackets.specs.declared.stack.Form.{Form}
 use Rattle.java_brackets.specs.declared.stack.Form.TheVariants as f
 use Rattle.java_brackets.specs.declared.stack.Bracket.{Bracket}

@@ -1,11 +1,9 @@
 -- What the rules of brackets promise.
-use Rattle.std.proofs.Common.{◌≡◌, ◌≢◌, ◌<◌, ◌≤◌, ◌⊎◌, ℕ, zero, suc, List, [], ◌∷◌, refl, sym, subst, inl, inr, arith}
+use Rattle.std.proofs.Common.{◌≡◌, ◌≢◌, ◌<◌, ◌≤◌, ℕ, refl, subst, inl, inr, arith}
 use Rattle.std.proofs.lemmas.Bool.{cases_lt}
 use Rattle.java_tree.specs.Seen.{Tokens}
-use Rattle.java_brackets.specs.declared.stack.Form.{Form}
 use Rattle.java_brackets.specs.declared.stack.Bracket.{Bracket}
 use Rattle.java_brackets.specs.declared.stack.Bracket.TheVariants as b
-use Rattle.java_brackets.specs.declared.stack.Opened.{Opened}
 use Rattle.java_brackets.specs.declared.flaws.Flaw.{Flaw}
 use Rattle.java_brackets.specs.declared.flaws.Flaw.TheVariants as w
 use Rattle.java_brackets.specs.Brackets.{bracket_at, Open, open_before, IsOpening, Pairs, ArePartners, IsFirst}

@@ -1,11 +1,11 @@
 -- What a scan knows, a token further.
-use Rattle.std.proofs.Common.{◌≡◌, ◌<◌, ◌+◌, ℕ, zero, suc, All, List, [], ◌∷◌, ◌++◌, length, reverse, map, slice_get, slice_set, get_or, Option, Some, None, IfSome, refl, sym, ap, subst, ◌∙◌, arith}
+use Rattle.std.proofs.Common.{◌≡◌, ◌<◌, ◌+◌, ℕ, zero, suc, List, [], ◌∷◌, length, reverse, slice_get, slice_set, get_or, Option, Some, None, IfSome, refl, sym, ap, subst, ◌∙◌, arith}
 use Rattle.std.proofs.lemmas.List.{length-append, length-set}
 use Rattle.std.proofs.lemmas.Option.{slice_get-map, slice_get_read}
-use Rattle.java_tree.specs.Seen.{Token, Tokens, seen, token_seen}
+use Rattle.java_tree.specs.Seen.{Tokens, seen, token_seen}
 use Rattle.java_tree.specs.declared.tokens.JToken.{JToken}
 use Rattle.java_brackets.specs.declared.stack.Bracket.{Bracket}
-use Rattle.java_brackets.specs.Brackets.{bracket, bracket_of, bracket_at, Open, closed_by, after, open_before, Pairs}
+use Rattle.java_brackets.specs.Brackets.{bracket, bracket_of, bracket_at, Open, closed_by, after, open_before}
 use Rattle.java_brackets.specs.declared.flaws.Flaw.{Flaw}
 use Rattle.java_brackets.specs.declared.pairing.Scan.{Scan}
 use Rattle.java_brackets.specs.Steps.{noted, partners_before, first_before, told, flaw_of, IsScan}

@@ -1,8 +1,8 @@
 //! The brackets of a file, and their partners.
 
-ghost use Rattle.std.specs.Prelude.{◌≡◌, ◌<◌, ◌^◌, ℕ, suc, Option, All, IfOk, IfSome, length, reverse, slice_index};
+ghost use Rattle.std.specs.Prelude.{◌≡◌, ◌<◌, ◌^◌, suc, IfOk, IfSome, length, slice_index};
 ghost use Rattle.java_tree.specs.Seen.{seen};
-ghost use Rattle.java_brackets.specs.Brackets.{IsPaired, open_before, closed_by};
+ghost use Rattle.java_brackets.specs.Brackets.{IsPaired};
 ghost use Rattle.java_brackets.specs.Steps.{IsScan, noted, told};
 
 use crate::flaws::{Flaw, Flawed};
@@ -28,6 +28,13 @@ impl Model for Partners {
 }
 
 impl Partners {
+    /// How many tokens there are.
+    pub fn len(&self) -> usize
+        ensures { result ≡ length self.now }
+    {
+        self.numbers.len()
+    }
+
     /// The number of the token that the token of a number pairs with.
     pub fn get(&self, at: usize) -> usize
         requires { at < length self.now }

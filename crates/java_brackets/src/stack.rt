@@ -1,6 +1,6 @@
 //! The brackets that are open.
 
-ghost use Rattle.std.specs.Prelude.{◌≡◌, reverse, length, IfOk};
+ghost use Rattle.std.specs.Prelude.{◌≡◌, reverse, IfOk};
 ghost use Rattle.java_tree.specs.Seen.{token_seen};
 ghost use Rattle.java_brackets.specs.Brackets as b;
 ghost use Rattle.java_brackets.specs.Steps as s;

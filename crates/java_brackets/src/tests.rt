@@ -61,7 +61,7 @@ fn told(alloc: Global, tokens: &[JToken]) -> Result<String, Fail> {
     match pairs(alloc, tokens)? {
         Paired::Flawed(flawed) => write!(out, "{} {:?}", flawed.number, flawed.flaw)?,
         Paired::Pairs(partners) => {
-            for at in 0..tokens.len() {
+            for at in 0..partners.len() {
                 write!(out, "{} ", partners.get(at))?;
             }
         }

@@ -1,4 +1,4 @@
-use Rattle.std.proofs.Common.{◌≡◌, ◌∙◌, Option, Some, None, subst, length, ap, sym, ℕ, List}
+use Rattle.std.proofs.Common.{◌≡◌, ◌∙◌, Option, Some, None, subst, ap, sym, ℕ, List}
 use Rattle.java_tree.specs.Seen.{seen}
 use Rattle.java_brackets.specs.declared.flaws.Flawed.{Flawed}
 use Rattle.java_brackets.specs.declared.stack.Opened.{Opened}

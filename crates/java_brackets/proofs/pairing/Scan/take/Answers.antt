@@ -1,9 +1,7 @@
-use Rattle.std.proofs.Common.{◌≡◌, ◌<◌, ◌+◌, ◌∙◌, ap, suc, Option, length, reverse, rules, arith}
-use Rattle.java_tree.specs.Seen.{seen, token_seen}
-use Rattle.java_brackets.specs.declared.stack.Opened.{Opened}
-use Rattle.java_brackets.specs.declared.stack.Bracket.{Bracket}
-use Rattle.java_brackets.specs.Brackets.{bracket, bracket_at, closed_by, after}
-use Rattle.java_brackets.specs.Steps.{IsScan, noted, told, flaw_of}
+use Rattle.std.proofs.Common.{◌≡◌, ◌∙◌, reverse, rules}
+use Rattle.java_tree.specs.Seen.{seen}
+use Rattle.java_brackets.specs.Brackets.{bracket_at, closed_by}
+use Rattle.java_brackets.specs.Steps.{flaw_of}
 use Rattle.java_brackets.proofs.Scans.{bracket_read, scan_partner, scan_more}
 use Rattle.java_brackets.proofs.pairing.Scan.take.Goals as goal
 
