@@ -8,7 +8,8 @@ use Rattle.java_tree.specs.declared.tokens.Keyword.TheVariants as w
 use Rattle.java_tree.specs.Seen.{Token, Tokens}
 use Rattle.java_tree.specs.declared.types.JQualified.{JQualified}
 use Rattle.java_tree.specs.Trees.{listed, AreBetween, closing, trailing, typed_tokens, type_tokens, qualified_tokens, tokens, any_level, TypeStands, TypedStands, Stands}
-use Rattle.java_heads.specs.Heads.{declaration_tokens, DeclarationStands}
+use Rattle.java_heads.specs.declared.declarations.JDeclaration.{JDeclaration}
+use Rattle.java_heads.specs.Heads.{declaration_tokens, DeclaratorStands}
 use Rattle.java_members.specs.declared.modifiers.ModifierKind.{ModifierKind}
 use Rattle.java_members.specs.declared.modifiers.ModifierKind.TheVariants as modifier
 use Rattle.java_members.specs.declared.modifiers.JModifier.{JModifier}
@@ -149,13 +150,20 @@ abbrev pub result_stands : ℕ → JResult → Type 0
 result_stands d (result.Void at) = Unit {0}
 result_stands d (result.Type x) = TypeStands d x
 
--- The `final` of a field is a modifier.
-abbrev pub MemberStands : ℕ → JMemberHead → Type 0
-MemberStands d head.Empty = Unit {0}
-MemberStands d (head.Field mods x) = (x.is_final ≡ None) × DeclarationStands d x
-MemberStands d (head.Method mods params result n at formals throws) = type_params_stand d params × result_stands d result × formals_stand d formals × list_stands d throws
-MemberStands d (head.Constructor mods n at formals throws) = formals_stand d formals × list_stands d throws
-MemberStands d (head.Initializer static) = Unit {0}
+-- The `final` of a field is a modifier. Its values are at a depth of less than e.
+pub record FieldStands (d e : ℕ) (x : JDeclaration) : Type 0 where
+  pub no_final : x.is_final ≡ None
+  pub kind : TypeStands d x.kind
+  pub some_name : 1 ≤ length x.names
+  pub between : AreBetween x.commas x.names
+  pub all : AllByRecursion (DeclaratorStands e) x.names
+
+abbrev pub MemberStands : ℕ → ℕ → JMemberHead → Type 0
+MemberStands d e head.Empty = Unit {0}
+MemberStands d e (head.Field mods x) = FieldStands d e x
+MemberStands d e (head.Method mods params result n at formals throws) = type_params_stand d params × result_stands d result × formals_stand d formals × list_stands d throws
+MemberStands d e (head.Constructor mods n at formals throws) = formals_stand d formals × list_stands d throws
+MemberStands d e (head.Initializer static) = Unit {0}
 
 abbrev pub TypeHeadStands : ℕ → JTypeHead → Type 0
 TypeHeadStands d (kind.Class mods at n nat params above faces) = type_params_stand d params × bound_stands d above × list_stands d faces

@@ -103,7 +103,7 @@ abbrev pub extends_list : ℕ → Reader (Option JTypeList)
 extends_list d (Token.Word w.Extends at ∷ rest) = types_behind d at rest >>= λ x. Some (Some x.0, x.1)
 extends_list d ts = Some (None, ts)
 
--- ---- heads of members
+-- ---- heads of members, whose values are at a depth of less than e
 
 unfoldable pub constructor : ℕ → List JModifier → List ℕ → Position → Reader JMemberHead
 constructor d mods n at ts = do
@@ -123,35 +123,35 @@ begins_call (Token.Id n at ∷ Token.Sign m.OpenRound lp ∷ rest) = true
 begins_call _ = false
 
 unfoldable pub field : ℕ → List JModifier → JType → Reader JMemberHead
-field d mods kind ts = declaration_of d None kind ts >>= λ x. Some (head.Field mods x.0, x.1)
+field e mods kind ts = declaration_of e None kind ts >>= λ x. Some (head.Field mods x.0, x.1)
 
 -- behind the modifiers, the type parameters and the type
-unfoldable pub typed_member : ℕ → List JModifier → Option JTypeParams → JType → Reader JMemberHead
-typed_member d mods params kind ts =
+unfoldable pub typed_member : ℕ → ℕ → List JModifier → Option JTypeParams → JType → Reader JMemberHead
+typed_member d e mods params kind ts =
     if begins_call ts then (ident ts >>= λ n. method d mods params (result.Type kind) n.0 n.1)
-    else maybe params (field d mods kind ts) (λ x. None)
+    else maybe params (field e mods kind ts) (λ x. None)
 
-abbrev pub result_member : ℕ → List JModifier → Option JTypeParams → Reader JMemberHead
-result_member d mods params (Token.Word w.Void at ∷ rest) = ident rest >>= λ n. method d mods params (result.Void at) n.0 n.1
-result_member d mods params ts = type_read d ts >>= λ x. typed_member d mods params x.0 x.1
+abbrev pub result_member : ℕ → ℕ → List JModifier → Option JTypeParams → Reader JMemberHead
+result_member d e mods params (Token.Word w.Void at ∷ rest) = ident rest >>= λ n. method d mods params (result.Void at) n.0 n.1
+result_member d e mods params ts = type_read d ts >>= λ x. typed_member d e mods params x.0 x.1
 
-unfoldable pub declared_member : ℕ → List JModifier → Reader JMemberHead
-declared_member d mods ts = type_params d ts >>= λ x. result_member d mods x.0 x.1
+unfoldable pub declared_member : ℕ → ℕ → List JModifier → Reader JMemberHead
+declared_member d e mods ts = type_params d ts >>= λ x. result_member d e mods x.0 x.1
 
-unfoldable pub member_of : ℕ → List JModifier → Reader JMemberHead
-member_of d mods ts =
-    if begins_call ts then (ident ts >>= λ n. constructor d mods n.0.name n.0.at n.1) else declared_member d mods ts
+unfoldable pub member_of : ℕ → ℕ → List JModifier → Reader JMemberHead
+member_of d e mods ts =
+    if begins_call ts then (ident ts >>= λ n. constructor d mods n.0.name n.0.at n.1) else declared_member d e mods ts
 
 -- before a `;`
-unfoldable pub before_semicolon : ℕ → Tokens → Option JMemberHead
-before_semicolon d [] = Some head.Empty
-before_semicolon d ts = whole (member_of d (modifiers ts).0 (modifiers ts).1)
+unfoldable pub before_semicolon : ℕ → ℕ → Tokens → Option JMemberHead
+before_semicolon d e [] = Some head.Empty
+before_semicolon d e ts = whole (member_of d e (modifiers ts).0 (modifiers ts).1)
 
 -- before a block
-unfoldable pub before_block : ℕ → Tokens → Option JMemberHead
-before_block d [] = Some (head.Initializer None)
-before_block d (Token.Word w.Static at ∷ []) = Some (head.Initializer (Some at))
-before_block d ts = whole (member_of d (modifiers ts).0 (modifiers ts).1)
+unfoldable pub before_block : ℕ → ℕ → Tokens → Option JMemberHead
+before_block d e [] = Some (head.Initializer None)
+before_block d e (Token.Word w.Static at ∷ []) = Some (head.Initializer (Some at))
+before_block d e ts = whole (member_of d e (modifiers ts).0 (modifiers ts).1)
 
 -- ---- heads of types
 
