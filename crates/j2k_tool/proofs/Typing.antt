@@ -26,7 +26,6 @@ use Rattle.j2k_tool.specs.declared.taken.TheConstants.{MAX_NUMBER}
 use Rattle.j2k_tool.specs.declared.texts.TheConstants.{ARGS, JAVA}
 use Rattle.j2k_tool.specs.Taken.{is_name, is_reserved, is_class, is_local, is_operand, names_local, is_expression, is_declaration, are_statements, is_taken}
 use Rattle.j2k_tool.proofs.Numbers.{both_true}
-use Rattle.j2k_tool.proofs.Scopes.{any_image}
 
 -- ---- names
 

@@ -1,9 +1,8 @@
 -- Which tokens the heads of statements spell, and which stand: their parts at a depth of at most a number.
-use Rattle.std.specs.Prelude.{◌≡◌, ◌≤◌, ◌||◌, ℕ, zero, suc, Bool, true, false, List, [], ◌∷◌, ◌++◌, length, map, Option, Some, None}
+use Rattle.std.specs.Prelude.{◌≡◌, ◌≤◌, ℕ, zero, suc, Bool, true, false, List, [], ◌∷◌, ◌++◌, length, map, Option, Some, None}
 use Rattle.std.specs.List.{AllByRecursion}
 use Rattle.java_tree.specs.declared.tokens.Position.{Position}
 use Rattle.java_tree.specs.declared.tokens.Mark.TheVariants as m
-use Rattle.java_tree.specs.declared.tokens.Keyword.{Keyword}
 use Rattle.java_tree.specs.declared.tokens.Keyword.TheVariants as w
 use Rattle.java_tree.specs.Seen.{Token, Tokens}
 use Rattle.java_tree.specs.declared.exprs.PrefixOp.{PrefixOp}
@@ -114,6 +113,11 @@ SimpleStands d (simple.ThisCall at lp args commas rp) = AreBetween commas args �
 SimpleStands d (simple.SuperCall at lp args commas rp) = AreBetween commas args × AllByRecursion (Stands d any_level) args
 SimpleStands d _ = Unit {0}
 
+-- The statement spells the tokens, with parts at a depth of at most the number.
+pub record SimpleSpells (d : ℕ) (x : JSimple) (text : Tokens) : Type 0 where
+  pub stands : SimpleStands d x
+  pub same : simple_tokens x ≡ text
+
 -- ---- loops
 
 abbrev pub start_tokens : JForStart → Tokens
@@ -135,6 +139,11 @@ ForStands d (for.Basic start first condition second updates commas) =
     StartStands d start × maybe_stands d condition × AreBetween commas updates × AllByRecursion (StatementStands d) updates
 ForStands d (for.Each is_final kind n at colon walked) = TypeStands d kind × Stands d any_level walked
 
+-- The head spells the tokens, with parts at a depth of at most the number.
+pub record ForSpells (d : ℕ) (x : JForHead) (text : Tokens) : Type 0 where
+  pub stands : ForStands d x
+  pub same : for_tokens x ≡ text
+
 -- ---- locks, and labels of a switch
 
 abbrev pub lock_tokens : JLock → Tokens
@@ -145,6 +154,11 @@ abbrev pub LockStands : ℕ → JLock → Type 0
 LockStands d (lock.Expression x) = Stands d any_level x
 LockStands d (lock.Class q dot at) = Unit {0}
 
+-- The lock spells the tokens, with a depth of at most the number.
+pub record LockSpells (d : ℕ) (x : JLock) (text : Tokens) : Type 0 where
+  pub stands : LockStands d x
+  pub same : lock_tokens x ≡ text
+
 abbrev pub switch_tokens : JSwitchLabel → Tokens
 switch_tokens (label.Case at x colon) = Token.Word w.Case at ∷ (tokens x ++ Token.Sign m.Colon colon ∷ [])
 switch_tokens (label.Default at colon) = Token.Word w.Default at ∷ Token.Sign m.Colon colon ∷ []
@@ -154,3 +168,8 @@ unfoldable pub SwitchStands : ℕ → JSwitchLabel → Type 0
 SwitchStands zero x = ⊥
 SwitchStands (suc d) (label.Case at x colon) = Stands d any_level x
 SwitchStands (suc d) (label.Default at colon) = Unit {0}
+
+-- The label spells the tokens, with a depth of at most the number.
+pub record SwitchSpells (d : ℕ) (x : JSwitchLabel) (text : Tokens) : Type 0 where
+  pub stands : SwitchStands d x
+  pub same : switch_tokens x ≡ text

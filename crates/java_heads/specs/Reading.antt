@@ -1,5 +1,5 @@
 -- Reading the heads of statements from lists of tokens, in which bodies count as one with the token before them.
-use Rattle.std.specs.Prelude.{◌≡◌, ℕ, zero, suc, Bool, true, false, if◌then◌else◌, List, [], ◌∷◌, Option, Some, None}
+use Rattle.std.specs.Prelude.{ℕ, zero, suc, Bool, true, false, if◌then◌else◌, [], ◌∷◌, Option, Some, None}
 use Rattle.java_tree.specs.declared.tokens.Position.{Position}
 use Rattle.java_tree.specs.declared.tokens.Mark.TheVariants as m
 use Rattle.java_tree.specs.declared.tokens.Keyword.{Keyword}
@@ -8,9 +8,8 @@ use Rattle.java_tree.specs.Seen.{Token, Tokens}
 use Rattle.java_tree.specs.declared.types.JType.{JType}
 use Rattle.java_tree.specs.declared.types.JQualified.{JQualified}
 use Rattle.java_tree.specs.declared.exprs.JExpr.{JExpr}
-use Rattle.java_tree.specs.declared.exprs.JParam.{JParam}
 use Rattle.java_tree.specs.Trees.{init_level, any_level}
-use Rattle.java_reading.specs.Reading.{Read, Reader, Listed, ◌>>=◌, maybe, whole, is_some, comma, close, colon, ident, dotted, qualified, primitive_by, type_read, base_read, typed_read, some_by, args_from, read}
+use Rattle.java_reading.specs.Reading.{Reader, Listed, ◌>>=◌, maybe, whole, is_some, comma, close, colon, ident, dotted, qualified, primitive_by, type_read, base_read, typed_read, some_by, args_from, read}
 use Rattle.java_heads.specs.declared.declarations.JValue.{JValue}
 use Rattle.java_heads.specs.declared.declarations.JDeclarator.{JDeclarator}
 use Rattle.java_heads.specs.declared.declarations.JDeclaration.{JDeclaration}
@@ -159,7 +158,7 @@ basic d start ts = do
 
 -- behind the type: a name and `:`, or declarators
 abbrev pub walks : Tokens → Bool
-walks (Token.Id n at ∷ Token.Sign m.Colon colon ∷ rest) = true
+walks (Token.Id n at ∷ Token.Sign m.Colon p ∷ rest) = true
 walks _ = false
 
 unfoldable pub each : ℕ → Option Position → JType → Reader JForHead

@@ -3,7 +3,9 @@
 #![tactic(auto)]
 
 mod declarations;
+mod laws;
 mod statements;
 
 pub use declarations::{JDeclaration, JDeclarator, JValue};
+pub use laws::{one_for, one_label, one_lock, one_simple};
 pub use statements::{JForHead, JForStart, JLabelName, JLock, JSimple, JSwitchLabel};

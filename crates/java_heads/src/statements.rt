@@ -45,14 +45,7 @@ pub enum JForStart {
 #[derive(Drop)]
 pub enum JForHead {
     /// The beginning, `;`, the condition where one stands, `;`, the updates, the commas between them (JLS 14.14.1).
-    Basic(
-        JForStart,
-        Position,
-        Option<JExpr>,
-        Position,
-        Items<JExpr>,
-        Items<Position>,
-    ),
+    Basic(JForStart, Position, Option<JExpr>, Position, Items<JExpr>, Items<Position>),
     /// `final` where it stands, the type, the name, `:`, what is walked through (JLS 14.14.2).
     Each(Option<Position>, JType, Name, Position, Position, JExpr),
 }

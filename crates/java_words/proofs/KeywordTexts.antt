@@ -1,12 +1,11 @@
 -- A keyword is a word with the keyword's spelling, and no other.
-use Rattle.std.proofs.Common.{◌≡◌, ℕ, Bool, true, false, List, [], ◌∷◌, Option, Some, None, cond, bytes_eq, find, refl, sym, ◌∙◌, ap}
+use Rattle.std.proofs.Common.{◌≡◌, ℕ, Bool, true, false, List, [], ◌∷◌, Option, Some, cond, bytes_eq, find, refl, sym, ◌∙◌, ap}
 use Rattle.std.specs.List.{AllByRecursion}
 use Rattle.std.specs.Option.{option_map}
 use Rattle.std.proofs.lemmas.Slice.Eq.{bytes_eq-Decides}
 use Rattle.java_tree.specs.declared.tokens.Keyword.{Keyword as keyword}
 use Rattle.java_tree.specs.declared.tokens.Keyword.TheVariants as keywords
 use Rattle.java_tree.specs.Spellings.{keyword_text}
-use Rattle.java_words.specs.declared.words.WordKind.{WordKind}
 use Rattle.java_words.specs.declared.words.WordKind.TheVariants.{Keyword, Outside}
 use Rattle.java_words.specs.Words.{Word, words, beside, word_kind}
 

@@ -1,5 +1,5 @@
 -- Which bytes spell a Kotlin tree of this form.
-use Rattle.std.specs.Prelude.{◌≡◌, ℕ, ◌<◌, ◌^◌, true, false, List, [], ◌∷◌, codes}
+use Rattle.std.specs.Prelude.{◌≡◌, ℕ, ◌<◌, ◌^◌, true, false, List, [], ◌∷◌}
 use Rattle.std.specs.Char.{is_ascii_alphabetic, is_ascii_alphanumeric}
 use Rattle.meanings.specs.declared.kotlin.KOperand.{KOperand}
 use Rattle.meanings.specs.declared.kotlin.KOperand.TheVariants.{Local, Number}

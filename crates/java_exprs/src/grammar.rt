@@ -1,0 +1,176 @@
+//! The reader of parts, and lists of them. The rules take it as a parameter, so that each is proved by itself.
+
+ghost use Rattle.std.specs.Prelude.{◌≡◌, ◌≤◌, ◌<◌, ◌+◌, length, []};
+ghost use Rattle.java_tree.specs.Trees as s;
+ghost use Rattle.java_reading.specs.Reading as r;
+ghost use Rattle.java_pieces.specs.Shown.{shown};
+ghost use Rattle.java_parts.specs.Gives.{Gives};
+ghost use Rattle.java_exprs.specs.Rules as g;
+ghost use Rattle.java_exprs.specs.Exprs.{ExprFits, ExprsFit, expr_found, exprs_found, Nests};
+
+use crate::ends::args_end;
+use crate::found::{ExprFound, ExprsFound};
+use j2k_base::NoMemory;
+use java_parts::{larger, onward};
+use java_pieces::{Pieces, braces_end, comma, inner_comma};
+use java_tree::Position;
+use sqlite_items::Items;
+use std::alloc::Global;
+
+#[derive(Clone, Copy)]
+pub struct Grammar<F> {
+    pub alloc: Global,
+    /// How deep parts may be.
+    pub depth: usize,
+    /// Reads parts: the pieces, how deep it may be, and the least level.
+    pub read: F,
+}
+
+impl<
+    F: Fn(Global, Pieces<'_>, usize, usize) -> Result<Option<(ExprFound, Pieces<'_>)>, NoMemory>,
+> Grammar<F> {
+    /// A part of the level `least` or above.
+    pub fn sub<'a>(
+        &self,
+        pieces: Pieces<'a>,
+        least: usize,
+    ) -> Result<Option<(ExprFound, Pieces<'a>)>, NoMemory>
+        requires { Nests self.now.depth (F.pre self.now.read) (F.post self.now.read) }
+        ensures { Gives expr_found (ExprFits self.now.depth) (r.read self.now.depth least (shown pieces.now)) result }
+    {
+        (self.read)(self.alloc, pieces, self.depth, least)
+    }
+
+    /// No expressions.
+    fn none(&self) -> ExprsFound
+        ensures items { result.items ≡ [] }
+        ensures commas { result.commas ≡ [] }
+        ensures deepest { result.deepest ≡ 0 }
+    {
+        ExprsFound {
+            items: Items::new(self.alloc),
+            commas: Items::new(self.alloc),
+            deepest: 0,
+        }
+    }
+
+    #[tactic(auto, using(crate::proofs::Lists::lists), unfolding(java_reading::specs::Reading::some_by))]
+    fn some_args<'a>(
+        &self,
+        pieces: Pieces<'a>,
+    ) -> Result<Option<(ExprsFound, Pieces<'a>)>, NoMemory>
+        requires nests { Nests self.now.depth (F.pre self.now.read) (F.post self.now.read) }
+        requires room { self.now.depth < usize.MAX }
+        ensures { Gives exprs_found (ExprsFit self.now.depth) (r.some_by r.comma (r.read self.now.depth s.any_level) (shown pieces.now)) result }
+    {
+        let Some((found, rest)) = self.sub(pieces, 1)? else {
+            return Ok(None);
+        };
+        let mut args = self.none();
+        args.items.push(found.tree.into_inner())?;
+        args.deepest = found.depth;
+        self.more_args(args, rest)
+    }
+
+    #[tactic(auto, using(java_reading::proofs::ExprParts::parts), unfolding(java_reading::specs::Reading::more_by))]
+    fn more_args<'a>(
+        &self,
+        mut found: ExprsFound,
+        mut pieces: Pieces<'a>,
+    ) -> Result<Option<(ExprsFound, Pieces<'a>)>, NoMemory>
+        requires nests { Nests self.now.depth (F.pre self.now.read) (F.post self.now.read) }
+        requires room { self.now.depth < usize.MAX }
+        requires fits { ExprsFit self.now.depth (found, pieces) }
+        ensures { Gives exprs_found (ExprsFit self.now.depth) (r.more_by r.comma (r.read self.now.depth s.any_level) (length pieces.entry.now) found.items found.commas (shown pieces.entry.now)) result }
+    {
+        for _turn in 0..pieces.len() {
+            let Some((at, rest)) = comma(pieces) else {
+                return Ok(Some((found, pieces)));
+            };
+            let Some((next, rest)) = self.sub(rest, 1)? else {
+                return Ok(None);
+            };
+            found.items.push(next.tree.into_inner())?;
+            found.commas.push(at)?;
+            found.deepest = larger(found.deepest, next.depth);
+            pieces = onward(rest);
+        }
+        Ok(Some((found, pieces)))
+    }
+
+    /// The arguments up to their `)`.
+    #[tactic(auto, using(java_reading::proofs::ExprParts::parts), unfolding(java_reading::specs::Reading::args_from))]
+    pub fn args_from<'a>(
+        &self,
+        pieces: Pieces<'a>,
+    ) -> Result<Option<(ExprsFound, Pieces<'a>)>, NoMemory>
+        requires nests { Nests self.now.depth (F.pre self.now.read) (F.post self.now.read) }
+        requires room { self.now.depth < usize.MAX }
+        ensures { Gives exprs_found (ExprsFit self.now.depth) (g.args_from self.now.depth (shown pieces.now)) result }
+    {
+        if args_end(pieces).is_some() {
+            return Ok(Some((self.none(), pieces)));
+        }
+        self.some_args(pieces)
+    }
+
+    #[tactic(auto, using(crate::proofs::Lists::lists), unfolding(java_reading::specs::Reading::some_by))]
+    fn some_inits<'a>(
+        &self,
+        pieces: Pieces<'a>,
+    ) -> Result<Option<(ExprsFound, Pieces<'a>)>, NoMemory>
+        requires nests { Nests self.now.depth (F.pre self.now.read) (F.post self.now.read) }
+        requires room { self.now.depth < usize.MAX }
+        ensures { Gives exprs_found (ExprsFit self.now.depth) (r.some_by r.inner_comma (r.read self.now.depth s.init_level) (shown pieces.now)) result }
+    {
+        let Some((found, rest)) = self.sub(pieces, 0)? else {
+            return Ok(None);
+        };
+        let mut values = self.none();
+        values.items.push(found.tree.into_inner())?;
+        values.deepest = found.depth;
+        self.more_inits(values, rest)
+    }
+
+    #[tactic(auto, using(java_reading::proofs::ExprParts::parts), unfolding(java_reading::specs::Reading::more_by))]
+    fn more_inits<'a>(
+        &self,
+        mut found: ExprsFound,
+        mut pieces: Pieces<'a>,
+    ) -> Result<Option<(ExprsFound, Pieces<'a>)>, NoMemory>
+        requires nests { Nests self.now.depth (F.pre self.now.read) (F.post self.now.read) }
+        requires room { self.now.depth < usize.MAX }
+        requires fits { ExprsFit self.now.depth (found, pieces) }
+        ensures { Gives exprs_found (ExprsFit self.now.depth) (r.more_by r.inner_comma (r.read self.now.depth s.init_level) (length pieces.entry.now) found.items found.commas (shown pieces.entry.now)) result }
+    {
+        for _turn in 0..pieces.len() {
+            let Some((at, rest)) = inner_comma(pieces) else {
+                return Ok(Some((found, pieces)));
+            };
+            let Some((next, rest)) = self.sub(rest, 0)? else {
+                return Ok(None);
+            };
+            found.items.push(next.tree.into_inner())?;
+            found.commas.push(at)?;
+            found.deepest = larger(found.deepest, next.depth);
+            pieces = onward(rest);
+        }
+        Ok(Some((found, pieces)))
+    }
+
+    /// The values up to the end of the braces.
+    #[tactic(auto, using(java_reading::proofs::ExprParts::parts), unfolding(java_reading::specs::Reading::inits))]
+    pub fn inits<'a>(
+        &self,
+        pieces: Pieces<'a>,
+    ) -> Result<Option<(ExprsFound, Pieces<'a>)>, NoMemory>
+        requires nests { Nests self.now.depth (F.pre self.now.read) (F.post self.now.read) }
+        requires room { self.now.depth < usize.MAX }
+        ensures { Gives exprs_found (ExprsFit self.now.depth) (g.inits self.now.depth (shown pieces.now)) result }
+    {
+        if braces_end(pieces).is_some() {
+            return Ok(Some((self.none(), pieces)));
+        }
+        self.some_inits(pieces)
+    }
+}
