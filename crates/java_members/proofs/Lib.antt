@@ -1,2 +1,3 @@
 pub mod Modified
 pub mod Clauses
+pub mod Members
