@@ -1,3 +1,6 @@
 pub mod Modified
 pub mod Clauses
 pub mod Members
+pub mod Types
+pub mod Enums
+pub mod Files
