@@ -4,3 +4,4 @@ pub mod Members
 pub mod Types
 pub mod Enums
 pub mod Files
+pub mod Theorem

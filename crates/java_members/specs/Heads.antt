@@ -165,7 +165,7 @@ MemberStands d e (head.Method mods params result n at formals throws) = type_par
 MemberStands d e (head.Constructor mods n at formals throws) = formals_stand d formals × list_stands d throws
 MemberStands d e (head.Initializer static) = Unit {0}
 
--- whether it may stand before a block, or before a `;` (JLS 8.2, 9.1.4)
+-- whether it may stand before a block, or before a `;` (JLS 8.1.6)
 abbrev pub may_precede : Bool → JMemberHead → Bool
 may_precede has_body head.Empty = not has_body
 may_precede has_body (head.Field mods x) = not has_body
