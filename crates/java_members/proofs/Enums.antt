@@ -1,11 +1,10 @@
 -- The constants of an enum: what is read is spelled so, and what is spelled so is read.
-use Rattle.std.proofs.Common.{◌≡◌, ℕ, Bool, true, false, if◌then◌else◌, ◌++◌, List, [], ◌∷◌, map, Option, Some, None, inl, inr, refl, ap, sym, ◌∙◌, subst, append_assoc}
+use Rattle.std.proofs.Common.{◌≡◌, ℕ, Bool, true, false, ◌++◌, List, [], ◌∷◌, map, Option, Some, None, inl, inr, refl, ap, sym, ◌∙◌, subst, append_assoc}
 use Rattle.std.specs.List.{AllByRecursion}
 use Rattle.java_tree.specs.declared.tokens.Position.{Position}
 use Rattle.java_tree.specs.declared.tokens.Mark.TheVariants as m
 use Rattle.java_tree.specs.Seen.{Token, Tokens}
-use Rattle.java_tree.specs.declared.exprs.JExpr.{JExpr}
-use Rattle.java_tree.specs.Trees.{listed, more_tokens, AreBetween, trailing, param_tokens, tokens}
+use Rattle.java_tree.specs.Trees.{listed, AreBetween, trailing, param_tokens, tokens}
 use Rattle.java_reading.specs.Reading as r
 use Rattle.java_reading.specs.Reading.{Listed, ◌>>=◌}
 use Rattle.java_reading.proofs.Tools.{bind_some, cond_is, some_same}

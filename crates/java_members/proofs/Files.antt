@@ -1,12 +1,12 @@
 -- Lines of packages and imports: what is read is spelled so, and what is spelled so is read.
-use Rattle.std.proofs.Common.{◌≡◌, false, ◌++◌, List, [], ◌∷◌, Option, Some, None, refl, ap, sym, ◌∙◌, subst, append_assoc}
+use Rattle.std.proofs.Common.{◌≡◌, false, ◌++◌, [], ◌∷◌, Option, Some, None, refl, ap, sym, ◌∙◌, subst}
 use Rattle.java_tree.specs.declared.tokens.Position.{Position}
 use Rattle.java_tree.specs.declared.tokens.Mark.TheVariants as m
 use Rattle.java_tree.specs.declared.tokens.Keyword.TheVariants as w
 use Rattle.java_tree.specs.Seen.{Token, Tokens}
 use Rattle.java_tree.specs.declared.types.JQualified.{JQualified}
 use Rattle.java_tree.specs.Trees.{qualified_tokens}
-use Rattle.java_reading.specs.Reading.{◌>>=◌, whole, qualified}
+use Rattle.java_reading.specs.Reading.{whole, qualified}
 use Rattle.java_reading.proofs.Tools.{bind_some, some_same}
 use Rattle.java_spelling.proofs.TypeLaws.{qualified_sound, qualified_again, begins_member}
 use Rattle.java_heads.specs.Reading.{semicolon}

@@ -1,5 +1,5 @@
 -- Heads of members: what is read is spelled so, and what is spelled so is read.
-use Rattle.std.proofs.Common.{◌≡◌, ◌≤◌, ℕ, zero, suc, Bool, true, false, not, if◌then◌else◌, ◌++◌, List, [], ◌∷◌, length, map, Option, Some, None, inl, inr, refl, ap, sym, ◌∙◌, subst, append_assoc, arith}
+use Rattle.std.proofs.Common.{◌≡◌, ◌≤◌, ℕ, zero, suc, Bool, true, false, not, ◌++◌, List, [], ◌∷◌, length, map, Option, Some, None, inl, inr, refl, ap, sym, ◌∙◌, subst, append_assoc, arith}
 use Rattle.std.specs.List.{AllByRecursion}
 use Rattle.std.proofs.lemmas.List.{append-nil}
 use Rattle.java_tree.specs.declared.tokens.Position.{Position}
@@ -13,13 +13,13 @@ use Rattle.java_tree.specs.declared.exprs.JParam.{JParam}
 use Rattle.java_tree.specs.Trees.{listed, more_tokens, AreBetween, param_tokens, final_tokens, type_tokens, TypeStands}
 use Rattle.java_reading.specs.Reading as r
 use Rattle.java_reading.specs.Reading.{Read, ◌>>=◌, maybe, whole, is_some}
-use Rattle.java_reading.proofs.Tools.{bind_some, cond_is, maybe_is, some_same}
+use Rattle.java_reading.proofs.Tools.{bind_some, cond_is, maybe_is, some_same, both_true}
 use Rattle.java_spelling.proofs.Lists as lists
 use Rattle.java_spelling.proofs.TypeLaws.{type_sound, type_again, ident_only, begins_less, EndsType}
 use Rattle.java_heads.specs.declared.declarations.JValue.{JValue}
 use Rattle.java_heads.specs.declared.declarations.JDeclarator.{JDeclarator}
 use Rattle.java_heads.specs.declared.declarations.JDeclaration.{JDeclaration}
-use Rattle.java_heads.specs.Heads.{value_tokens, declarator_tokens, declaration_tokens, DeclaratorStands}
+use Rattle.java_heads.specs.Heads.{value_tokens, declarator_tokens, DeclaratorStands}
 use Rattle.java_heads.specs.Reading.{declarator_read, declaration_of}
 use Rattle.java_heads.proofs.Whole.{whole_only, three}
 use Rattle.java_heads.proofs.Declared.{declarator_sound, names_again, names_end}
@@ -33,6 +33,7 @@ use Rattle.java_members.specs.declared.heads.JMemberHead.{JMemberHead}
 use Rattle.java_members.specs.declared.heads.JMemberHead.TheVariants as head
 use Rattle.java_members.specs.Heads.{modifiers_tokens, type_params_tokens, formals_tokens, list_tokens, result_tokens, member_tokens, type_params_stand, formals_stand, list_stands, result_stands, FieldStands, MemberStands, may_precede}
 use Rattle.java_members.specs.Reading.{modifier_by, modifiers, type_params, formals, throws, constructor, method, begins_call, field, typed_member, result_member, declared_member, member_of, before_semicolon, before_block}
+use Rattle.java_members.specs.Modifiers.{class_member_fits, interface_member_fits}
 use Rattle.java_members.proofs.Modified.{modifiers_text, modifiers_again, begins_modifier}
 use Rattle.java_members.proofs.Clauses.{type_params_sound, type_params_again, formals_sound, formals_again, throws_sound, throws_again}
 
@@ -356,3 +357,18 @@ block_again d e (head.Initializer static) p s = initializer_again d e static
 -- What is spelled so before a block is read.
 pub block_is_read : (d e : ℕ) (ts : Tokens) (x : JMemberHead) → may_precede true x ≡ true → MemberStands d e x → member_tokens x ≡ ts → before_block d e ts ≡ Some x
 block_is_read d e ts x p s same = subst (λ ts. before_block d e ts ≡ Some x) same (block_again d e x p s)
+
+-- ---- what fits in a class or an interface may precede its `;` or its block
+
+pub class_precedes : (name : Option (List ℕ)) (has_body : Bool) (x : JMemberHead) → class_member_fits name has_body x ≡ true → may_precede has_body x ≡ true
+class_precedes name has_body head.Empty h = h
+class_precedes name has_body (head.Field mods x) h = (both_true (not has_body) _ h).0
+class_precedes name has_body (head.Method mods params result n at formals throws) h = refl
+class_precedes name has_body (head.Constructor mods n at formals throws) h = (both_true has_body _ h).0
+class_precedes name has_body (head.Initializer static) h = h
+
+pub interface_precedes : (has_body : Bool) (x : JMemberHead) → interface_member_fits has_body x ≡ true → may_precede has_body x ≡ true
+interface_precedes has_body head.Empty h = h
+interface_precedes has_body (head.Field mods x) h = (both_true (not has_body) _ h).0
+interface_precedes has_body (head.Method mods params result n at formals throws) h = refl
+interface_precedes has_body _ h = absurd (cc h)

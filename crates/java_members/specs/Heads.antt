@@ -1,12 +1,11 @@
 -- Which tokens the heads of members and types spell, and which stand.
-use Rattle.std.specs.Prelude.{◌≡◌, ◌≤◌, ◌||◌, ◌&&◌, ◌+◌, ℕ, zero, suc, Bool, true, false, not, List, [], ◌∷◌, ◌++◌, length, map, Option, Some, None, codes}
+use Rattle.std.specs.Prelude.{◌≡◌, ◌≤◌, ℕ, zero, suc, Bool, true, not, List, [], ◌∷◌, ◌++◌, length, map, Option, Some, None, codes}
 use Rattle.std.specs.List.{AllByRecursion}
 use Rattle.java_tree.specs.declared.tokens.Position.{Position}
 use Rattle.java_tree.specs.declared.tokens.Mark.TheVariants as m
 use Rattle.java_tree.specs.declared.tokens.Keyword.{Keyword}
 use Rattle.java_tree.specs.declared.tokens.Keyword.TheVariants as w
 use Rattle.java_tree.specs.Seen.{Token, Tokens}
-use Rattle.java_tree.specs.declared.types.JQualified.{JQualified}
 use Rattle.java_tree.specs.Trees.{listed, AreBetween, closing, trailing, typed_tokens, type_tokens, qualified_tokens, tokens, any_level, TypeStands, TypedStands, Stands}
 use Rattle.java_heads.specs.declared.declarations.JDeclaration.{JDeclaration}
 use Rattle.java_heads.specs.Heads.{declaration_tokens, DeclaratorStands}
