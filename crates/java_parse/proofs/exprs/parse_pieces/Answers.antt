@@ -8,4 +8,4 @@ pub returns-then-is_empty : goal.returns-then-is_empty
 returns-then-is_empty c =
     let none : c.in-Some.rest.now ≡ [] = first_of (search rules, grind (arith, common_steps)) in
     let h = rw c.in-Some.is at c.in_ok-found.ensures in
-    spelled_whole _ _ _ h.0 (ap shown none ∙ shown_none)
+    rw c.into_inner.ensures (spelled_whole _ _ _ h.0 (ap shown none ∙ shown_none))
