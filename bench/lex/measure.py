@@ -25,7 +25,7 @@ def built(top, folder):
         lines = ["lexed: java_lexer java_tree j2k_base anyhow\n"]
         for line in open(os.path.join(top, "crates.txt")):
             name = line.split(":")[0]
-            if name in ("j2k_base", "java_tree", "java_letters", "java_lexer"):
+            if name in ("j2k_base", "java_tree", "java_letters", "java_words", "java_lexer"):
                 lines.append(line)
                 shutil.copytree(os.path.join(top, "crates", name), os.path.join(folder, "crates", name))
         with open(os.path.join(folder, "crates.txt"), "w") as file:

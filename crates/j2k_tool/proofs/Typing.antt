@@ -1,6 +1,6 @@
 -- A class that is taken is well typed, and its names are those of both languages.
 use Rattle.std.proofs.Common.{◌≡◌, ◌<◌, ◌^◌, ℕ, Bool, true, false, cond, ◌&&◌, ◌||◌, not, List, [], ◌∷◌, ◌++◌, length, map, refl, sym, ◌∙◌, ap, arith}
-use Rattle.std.specs.Prelude.{◌==◌, IsTrue, nat_le, codes}
+use Rattle.std.specs.Prelude.{◌==◌, IsTrue, nat_le, codes, is_some}
 use Rattle.std.specs.List.{list_any, list_all}
 use Rattle.std.specs.Str.{bytes_eq}
 use Rattle.std.specs.Char.{is_ascii_alphabetic, is_ascii_alphanumeric}
@@ -16,14 +16,16 @@ use Rattle.meanings.specs.declared.java.JClass.{JClass}
 use Rattle.meanings.specs.Convert.{class_of, statement_of}
 use Rattle.meanings.specs.JNamed.{IsNamedOperand, IsNamed, AreNamed, JNamed}
 use Rattle.meanings.specs.JTyped.{KnowsOperand, Knows, AreTyped, JTyped}
-use Rattle.meanings.specs.KSpells.{IsWord, IsIdentifier, hard_keywords, DeclareNoKeyword, HasNoKeyword}
+use Rattle.meanings.specs.KSpells.{IsWord, IsIdentifier, DeclareNoKeyword, HasNoKeyword}
 use Rattle.meanings.specs.Values.{same_name, is_among}
-use Rattle.j2k_tool.specs.declared.reserved.TheConstants.{JAVA_WORDS, KOTLIN_WORDS, KOTLIN_NAMES, LIBRARY_NAMES}
+use Rattle.java_words.specs.Words.{word_kind}
+use Rattle.kotlin_words.specs.Words.{hard_keywords, reserved_names, contains_word}
+use Rattle.java_lib.specs.Library.{classes}
+use Rattle.java_lib.specs.Classes.{class_simple}
 use Rattle.j2k_tool.specs.declared.taken.TheConstants.{MAX_NUMBER}
-use Rattle.j2k_tool.specs.declared.texts.TheConstants.{ARGS}
+use Rattle.j2k_tool.specs.declared.texts.TheConstants.{ARGS, JAVA}
 use Rattle.j2k_tool.specs.Taken.{is_name, is_reserved, is_class, is_local, is_operand, names_local, is_expression, is_declaration, are_statements, is_taken}
 use Rattle.j2k_tool.proofs.Numbers.{both_true}
-use Rattle.j2k_tool.proofs.Scopes.{any_image}
 
 -- ---- names
 
@@ -110,19 +112,16 @@ among_any : (names : List (List ℕ)) (name : List ℕ) → is_among names name 
 among_any [] name = refl
 among_any (first ∷ names) name = chosen (same_name first name) (is_among names name) ∙ ap (λ t. t || is_among names name) (same_bytes first name) ∙ ap (λ t. bytes_eq name first || t) (among_any names name)
 
-keywords : map (λ word. word.now) KOTLIN_WORDS ≡ hard_keywords
-keywords = refl
-
-second_false : (a b c d : Bool) → not (a || b || c || d) ≡ true → b ≡ false
-second_false true b c d e = cc
-second_false false true c d e = cc
-second_false false false c d e = refl
+third_false : (a b c d e : Bool) → not (a || b || c || d || e) ≡ true → c ≡ false
+third_false true b c d e h = cc
+third_false false true c d e h = cc
+third_false false false true d e h = cc
+third_false false false false d e h = refl
 
 plain : (word : List ℕ) → not (is_reserved word) ≡ true → is_among hard_keywords word ≡ false
 unfolding is_reserved
 plain word not_reserved =
-    among_any hard_keywords word ∙ ap (list_any (bytes_eq word)) (sym keywords) ∙ sym (any_image (λ other. other.now) (bytes_eq word) KOTLIN_WORDS)
-    ∙ second_false (list_any (λ other. bytes_eq word other.now) JAVA_WORDS) (list_any (λ other. bytes_eq word other.now) KOTLIN_WORDS) (list_any (λ other. bytes_eq word other.now) KOTLIN_NAMES) (list_any (λ other. bytes_eq word other.now) LIBRARY_NAMES) not_reserved
+    among_any hard_keywords word ∙ third_false (is_some (word_kind word)) (bytes_eq word JAVA.now) (contains_word hard_keywords word) (contains_word reserved_names word) (is_some (class_simple word classes)) not_reserved
 
 plain_statements : (class : List ℕ) (names : List (List ℕ)) (statements : List JStmt) → are_statements class names statements ≡ true → DeclareNoKeyword (map statement_of statements)
 plain_statements class names [] are = tt

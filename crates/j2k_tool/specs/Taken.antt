@@ -1,5 +1,5 @@
 -- The programs that are taken: one class, whose `main` declares integers and prints them.
-use Rattle.std.specs.Prelude.{ℕ, Bool, true, false, ◌&&◌, ◌||◌, not, List, [], ◌∷◌, ◌++◌, nat_le, length, slice_index, ◌==◌}
+use Rattle.std.specs.Prelude.{ℕ, Bool, true, false, ◌&&◌, ◌||◌, not, List, [], ◌∷◌, ◌++◌, nat_le, length, slice_index, is_some, ◌==◌}
 use Rattle.std.specs.List.{list_all, list_any}
 use Rattle.std.specs.Char.{is_ascii_alphabetic, is_ascii_alphanumeric}
 use Rattle.std.specs.Str.{bytes_eq}
@@ -10,21 +10,26 @@ use Rattle.meanings.specs.declared.java.JExpr.TheVariants.{Operand, Binary}
 use Rattle.meanings.specs.declared.java.JStmt.{JStmt}
 use Rattle.meanings.specs.declared.java.JStmt.TheVariants.{Local, Print}
 use Rattle.meanings.specs.declared.java.JClass.{JClass}
-use Rattle.j2k_tool.specs.declared.reserved.TheConstants.{JAVA_WORDS, KOTLIN_WORDS, KOTLIN_NAMES, LIBRARY_NAMES}
+use Rattle.java_words.specs.Words.{word_kind}
+use Rattle.kotlin_words.specs.Words.{hard_keywords, reserved_names, contains_word}
+use Rattle.java_lib.specs.Library.{classes}
+use Rattle.java_lib.specs.Classes.{class_simple}
 use Rattle.j2k_tool.specs.declared.taken.TheConstants.{MAX_NUMBER}
-use Rattle.j2k_tool.specs.declared.texts.TheConstants.{ARGS}
+use Rattle.j2k_tool.specs.declared.texts.TheConstants.{ARGS, JAVA}
 
 -- ASCII letters and digits that begin with a letter
 abbrev pub is_name : List ℕ → Bool
 is_name bytes = not (length bytes == 0) && is_ascii_alphabetic (slice_index bytes 0) && list_all is_ascii_alphanumeric bytes
 
--- a word that names no class and no local: one of Java or Kotlin, or a name with a meaning of its own
+-- a word that names no class and no local: one of Java or Kotlin, the root of Java's packages, a name with a meaning of
+-- its own in Kotlin, or a class of the library
 unfoldable pub is_reserved : List ℕ → Bool
 is_reserved word =
-    list_any (λ other. bytes_eq word other.now) JAVA_WORDS
-    || list_any (λ other. bytes_eq word other.now) KOTLIN_WORDS
-    || list_any (λ other. bytes_eq word other.now) KOTLIN_NAMES
-    || list_any (λ other. bytes_eq word other.now) LIBRARY_NAMES
+    is_some (word_kind word)
+    || bytes_eq word JAVA.now
+    || contains_word hard_keywords word
+    || contains_word reserved_names word
+    || is_some (class_simple word classes)
 
 abbrev pub is_class : List ℕ → Bool
 is_class name = is_name name && not (is_reserved name)

@@ -10,7 +10,6 @@ mod printing;
 mod project;
 mod reading;
 mod report;
-mod reserved;
 mod scope;
 mod status;
 mod taken;

@@ -1,14 +1,15 @@
 // Which programs are taken.
 ghost use Rattle.std.specs.Prelude.{◌≡◌, ◌++◌, ◌∷◌, [], IfOk, IsTrue};
-ghost use Rattle.std.specs.List.{list_any, list_all};
-ghost use Rattle.std.specs.Str.{bytes_eq};
+ghost use Rattle.std.specs.List.{list_all};
 ghost use Rattle.std.specs.Char.{is_ascii_alphanumeric};
 ghost use Rattle.j2k_tool.specs.Taken.{is_name as is_name_by, is_reserved as is_reserved_by, is_class as is_class_by, is_local as is_local_by, is_operand as is_operand_by, names_local as names_local_by, is_expression as is_expression_by, is_declaration as is_declaration_by, is_statement as is_statement_by, names_after, are_statements as are_statements_by, is_taken as is_taken_by};
 
-use crate::reserved::{JAVA_WORDS, KOTLIN_NAMES, KOTLIN_WORDS, LIBRARY_NAMES};
 use crate::scope::Scope;
-use crate::texts::ARGS;
+use crate::texts::{ARGS, JAVA};
 use j2k_base::{Name, NoMemory};
+use java_lib::simple_row;
+use java_words::word_kind;
+use kotlin_words::{is_hard_keyword, is_reserved_name};
 use meanings::java::{JClass, JExpr, JOperand, JStmt};
 use std::alloc::Global;
 
@@ -48,16 +49,11 @@ fn are_alphanumeric(bytes: &[u8]) -> bool
 fn is_reserved(word: &[u8]) -> bool
     ensures { result ≡ is_reserved_by word.now }
 {
-    is_among(&JAVA_WORDS, word)
-        || is_among(&KOTLIN_WORDS, word)
-        || is_among(&KOTLIN_NAMES, word)
-        || is_among(&LIBRARY_NAMES, word)
-}
-
-fn is_among(words: &[&str], word: &[u8]) -> bool
-    ensures { result ≡ list_any (λ other. bytes_eq word.now other.now) words.now }
-{
-    words.iter().any(|other| word == other.as_bytes())
+    word_kind(word).is_some()
+        || word == JAVA.as_bytes()
+        || is_hard_keyword(word)
+        || is_reserved_name(word)
+        || simple_row(word).is_some()
 }
 
 fn are_statements(alloc: Global, class: &[u8], statements: &[JStmt]) -> Result<bool, NoMemory>

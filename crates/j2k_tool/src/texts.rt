@@ -12,6 +12,9 @@ pub const CONVERT: &str = "convert";
 
 pub const ARGS: &str = "args";
 
+// The root of the packages of Java's library.
+pub const JAVA: &str = "java";
+
 pub const JAVA_END: &str = ".java";
 
 pub const KOTLIN_END: &str = ".kt";

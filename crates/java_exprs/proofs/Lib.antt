@@ -1,3 +1,4 @@
 pub mod Levels
 pub mod Lists
 pub mod Turns
+pub mod Parsed

@@ -8,7 +8,12 @@ mod found;
 mod grammar;
 mod groups;
 mod operands;
+mod parse;
 mod suffixes;
 
 pub use climb::read;
 pub use found::ExprFound;
+pub use parse::parse_expr;
+
+#[cfg(test)]
+mod tests;

@@ -2,5 +2,4 @@ pub mod Strings
 pub mod Cuts
 pub mod LongestMarks
 pub mod Scanned
-pub mod KeywordTexts
 pub mod ExactValues

@@ -1,7 +1,6 @@
 pub mod Found
 pub mod Numbers
 pub mod Literals
-pub mod Words
 pub mod Marks
 pub mod Names
 pub mod Pieces

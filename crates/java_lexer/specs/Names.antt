@@ -1,16 +1,16 @@
 -- Identifiers and keywords (JLS 3.8, 3.9).
-use Rattle.std.specs.Prelude.{ℕ, Bool, ◌&&◌, ◌||◌, ◌==◌, List, [], ◌++◌, encode_utf8, if◌then◌else◌}
+use Rattle.std.specs.Prelude.{ℕ, Bool, ◌&&◌, ◌||◌, ◌==◌, List, [], ◌++◌, Option, Some, None, encode_utf8, if◌then◌else◌}
 use lib.Utf8.{scalar}
 use Rattle.unicode_ident.specs.Ident.{is_xid_start, is_xid_continue}
 use Rattle.java_tree.specs.declared.tokens.Position.{Position}
 use Rattle.java_tree.specs.declared.tokens.TokenKind.TheVariants as kinds
 use Rattle.java_lexer.specs.declared.found.Code.TheVariants as codes
-use Rattle.java_lexer.specs.declared.words.WordKind.{WordKind}
-use Rattle.java_lexer.specs.declared.words.WordKind.TheVariants.{Keyword, Outside, Name}
+use Rattle.java_words.specs.declared.words.WordKind.{WordKind}
+use Rattle.java_words.specs.declared.words.WordKind.TheVariants.{Keyword, Outside}
+use Rattle.java_words.specs.Words.{word_kind}
 use Rattle.java_letters.specs.Letters.{Letters, letter, stop}
 use Rattle.java_letters.specs.Scans.{drop_while}
 use Rattle.java_lexer.specs.Found.{Cut, fault, token}
-use Rattle.java_lexer.specs.Words.{word_kind}
 
 -- A word begins with `$`, `_` or a character of the Unicode property XID_Start (own rule for JLS 3.8).
 unfoldable pub is_start : ℕ → Bool
@@ -34,11 +34,11 @@ dollar_in dollar (stop e q) = dollar
 abbrev pub word_rest : Letters → Letters
 word_rest t = drop_while is_continue t
 
--- the token of a word (JLS 3.8, 3.9)
-abbrev pub named : Position → WordKind → List ℕ → Letters → Cut
-named p (Keyword k) name t = token (kinds.Keyword k) p t
-named p Outside name t = fault codes.Outside p t
-named p Name name t = token (kinds.Name name) p t
+-- the token of a word, by what it is if it is no identifier (JLS 3.8, 3.9)
+abbrev pub named : Position → Option WordKind → List ℕ → Letters → Cut
+named p (Some (Keyword k)) name t = token (kinds.Keyword k) p t
+named p (Some Outside) name t = fault codes.Outside p t
+named p None name t = token (kinds.Name name) p t
 
 -- A longest word. One with a `$` is outside the profile (own rule).
 unfoldable pub word_piece : Position → ℕ → Letters → Cut

@@ -2,21 +2,17 @@
 
 ghost use Rattle.std.specs.Prelude.{◌≡◌, ℕ, ◌+◌, ◌^◌, ◌≤◌, min, Bool, false, List};
 ghost use Rattle.java_tree.specs.declared.tokens.Position.{Position};
-ghost use Rattle.java_tree.specs.declared.tokens.Keyword.{Keyword};
 ghost use Rattle.java_tree.specs.declared.tokens.Mark.{Mark};
-ghost use Rattle.java_tree.specs.Spellings.{keyword_text};
 ghost use Rattle.java_tree.specs.declared.tokens.JToken.{JToken};
 ghost use Rattle.java_tree.specs.declared.tokens.Comment.{Comment};
 ghost use Rattle.java_lexer.specs.declared.found.Code.TheVariants.{Form};
 ghost use Rattle.java_lexer.specs.declared.found.LexFault.{LexFault};
 ghost use Rattle.java_lexer.specs.declared.marks.MarkKind.TheVariants as kinds;
-ghost use Rattle.java_lexer.specs.declared.words.WordKind.TheVariants as words;
 ghost use Rattle.java_letters.specs.Letters.{Letters};
 ghost use Rattle.java_letters.specs.Scans.{drop_while, drop_letters};
 ghost use Rattle.java_lexer.specs.Found.{fault, comment};
 ghost use Rattle.java_lexer.specs.Marks.{mark_of};
 ghost use Rattle.java_lexer.specs.Numbers.{run_value};
-ghost use Rattle.java_lexer.specs.Words.{word_kind};
 ghost use Rattle.java_lexer.specs.Pieces.{block_piece};
 ghost use Rattle.java_lexer.specs.Cutting.{Lexes, Faults};
 ghost use Rattle.java_lexer.specs.Laws.{IsLongest, exact_value, closes, IsFirstClose, end_of, IsLongestMark};
@@ -46,12 +42,6 @@ pub fn longest_mark()
 pub fn first_close()
     ensures closed { (p : Position) (n : ℕ) (t : Letters) → IsFirstClose t n → block_piece p t ≡ comment p (drop_letters (n + 2) t) }
     ensures unclosed { (p : Position) (t : Letters) → ((n : ℕ) → closes (drop_letters n t) ≡ false) → block_piece p t ≡ fault Form p (end_of t) }
-{}
-
-/// A word is a keyword exactly where it has the keyword's spelling.
-pub fn keywords()
-    ensures found { (k : Keyword) → word_kind (keyword_text k) ≡ words.Keyword k }
-    ensures only { (word : List ℕ) (k : Keyword) → word_kind word ≡ words.Keyword k → word ≡ keyword_text k }
 {}
 
 /// The value of digits is exact below 2 ^ 64.

@@ -10,7 +10,6 @@ mod marks;
 mod names;
 mod numbers;
 mod pieces;
-mod words;
 
 pub use lexing::lex;
 

@@ -6,10 +6,10 @@ ghost use Rattle.java_lexer.specs.Found.{cut_of};
 ghost use Rattle.java_lexer.specs.Names.{is_start, is_continue, name_of, dollar_in, word_rest, named, word_piece};
 
 use crate::found::{Code, Found, fault, token};
-use crate::words::{WordKind, word_kind};
 use j2k_base::{Name, NoMemory};
 use java_letters::{Cursor, Front, front_at};
 use java_tree::{Position, TokenKind};
+use java_words::{WordKind, word_kind};
 use std::alloc::Global;
 
 /// The character, where a word may begin with it.
@@ -72,14 +72,20 @@ fn word_at(alloc: Global, first: char, bytes: &[u8], at: Cursor) -> Result<WordR
     }
 }
 
-fn named(kind: WordKind, name: Name, position: Position, next: Cursor, bytes: &[u8]) -> Found
+fn named(
+    kind: Option<WordKind>,
+    name: Name,
+    position: Position,
+    next: Cursor,
+    bytes: &[u8],
+) -> Found
     ensures value { cut_of bytes.now result ≡ named position kind name (letters bytes.now next) }
     ensures next { result.next ≡ next }
 {
     match kind {
-        WordKind::Keyword(keyword) => token(TokenKind::Keyword(keyword), position, next),
-        WordKind::Outside => fault(Code::Outside, position, next),
-        WordKind::Name => token(TokenKind::Name(name), position, next),
+        Some(WordKind::Keyword(keyword)) => token(TokenKind::Keyword(keyword), position, next),
+        Some(WordKind::Outside) => fault(Code::Outside, position, next),
+        None => token(TokenKind::Name(name), position, next),
     }
 }
 

@@ -1,5 +1,5 @@
 -- Classes by their names and numbers.
-use Rattle.std.specs.Prelude.{◌≡◌, ◌≢◌, ◌⊎◌, ℕ, List, ◌∷◌, ◌++◌, Option, Bool, true, length, nat_lt, bytes_eq, find, slice_get, Some}
+use Rattle.std.specs.Prelude.{◌≡◌, ◌≢◌, ◌⊎◌, ℕ, List, ◌∷◌, ◌++◌, Option, Bool, true, length, nat_lt, bytes_eq, find, slice_get, Some, None, zero, suc}
 use Rattle.std.specs.Option.{option_map, option_map_or, option_or}
 use Rattle.j2k_base.specs.declared.tables.Row.{Row}
 use Rattle.java_lib.specs.declared.rows.ClassRow.{ClassRow}
@@ -44,6 +44,15 @@ HasNoName name class = (class.0 ≢ name) × (qualified class ≢ name)
 -- a class's number is its place
 abbrev pub HasItsPlace : Class → Type 0
 HasItsPlace class = option_map (λ found. found.1) (slice_get classes class.number) ≡ Some class
+
+-- the number of what stands next above the class of a number, if anything does
+abbrev pub above_of : ℕ → Option ℕ
+above_of class = option_map_or (λ (found : Named). found.1.above) (slice_get classes class) None
+
+-- the class that so many steps up lead to, or the topmost on the way
+abbrev pub climbed : ℕ → ℕ → ℕ
+climbed zero class = class
+climbed (suc steps) class = option_map_or (climbed steps) (above_of class) class
 
 -- how many type parameters the class of a number has
 abbrev pub params_of : ℕ → ℕ

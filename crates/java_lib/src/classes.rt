@@ -1,10 +1,10 @@
 // The classes of the library, in the order of their numbers.
-ghost use Rattle.std.specs.Prelude.{◌≡◌, ◌↔◌, IsTrue, IsNone, IfSome, All, Some, map};
+ghost use Rattle.std.specs.Prelude.{◌≡◌, ◌↔◌, ◌<◌, IsTrue, IsNone, IfSome, All, Some, length, map};
 ghost use Rattle.std.specs.Str.{bytes_eq};
 ghost use Rattle.std.specs.Option.{option_copied, option_map};
 ghost use Rattle.j2k_base.specs.Keys.{keys_differ};
-ghost use Rattle.java_lib.specs.Library.{classes};
-ghost use Rattle.java_lib.specs.Classes.{named, qualified, class_of, class_named, value_qualified, above_stands, HasName, HasNoName, HasItsPlace};
+ghost use Rattle.java_lib.specs.Library.{classes, members};
+ghost use Rattle.java_lib.specs.Classes.{named, qualified, class_of, class_simple, class_named, value_qualified, above_stands, HasName, HasNoName, HasItsPlace};
 
 use crate::numbers::*;
 use crate::rows::ClassRow;
@@ -227,9 +227,16 @@ pub fn class_row(name: &[u8]) -> Option<&'static ClassRow>
     ensures absent { IsNone result ↔ All (HasNoName name.now) classes }
     ensures number { IfSome result (λ row. HasItsPlace (class_of row.now)) }
     ensures above { IfSome result (λ row. IsTrue (above_stands (class_of row.now))) }
+    ensures members { IfSome result (λ row. row.now.number < length members) }
 {
-    let rows = class_rows();
-    Table::new(rows).get(name).or(first_qualified(rows, name))
+    simple_row(name).or(first_qualified(class_rows(), name))
+}
+
+/// The class of this simple name. It takes no memory.
+pub fn simple_row(name: &[u8]) -> Option<&'static ClassRow>
+    ensures { option_map class_of (option_copied result) ≡ class_simple name.now classes }
+{
+    Table::new(class_rows()).get(name)
 }
 
 // The rows of the classes are those of the library.

@@ -2,12 +2,13 @@
 #![tactic(auto)]
 
 mod classes;
+pub mod laws;
 mod members;
 mod numbers;
 mod rows;
 mod types;
 
-pub use classes::class_row;
+pub use classes::{class_row, simple_row};
 pub use members::member_rows;
 pub use rows::{ClassRow, Form, LibKind, LibType, Mark, MemberRow};
 

@@ -1,8 +1,7 @@
 -- What a reader in the code answers, beside what reading gives.
-use Rattle.std.specs.Prelude.{◌≡◌, ◌≤◌, ◌+◌, length, ℕ, Bool, true, false, map, List, [], ◌∷◌, Option, Some, None, Result, Ok, Err}
+use Rattle.std.specs.Prelude.{◌≡◌, ◌≤◌, ◌+◌, length, ℕ, Bool, false, map, List, [], ◌∷◌, Option, Some, None, Result, Ok, Err}
 use Rattle.std.specs.Borrow.{Bor}
 use Rattle.j2k_base.specs.declared.errors.NoMemory.{NoMemory}
-use Rattle.java_tree.specs.declared.tokens.Mark.TheVariants as m
 use Rattle.java_tree.specs.declared.tokens.Position.{Position}
 use Rattle.java_tree.specs.declared.types.JBrackets.{JBrackets}
 use Rattle.java_tree.specs.declared.types.JDotted.{JDotted}

@@ -11,6 +11,7 @@ use crate::types::{closes, primitive};
 use java_pieces::{Head, Pieces, first};
 use java_tree::{Keyword, Mark};
 
+/// Whether the name of a primitive type comes first.
 pub fn begins_primitive<'a>(pieces: Pieces<'a>) -> bool
     ensures { result ≡ r.begins_primitive (shown pieces.now) }
 {
@@ -20,6 +21,7 @@ pub fn begins_primitive<'a>(pieces: Pieces<'a>) -> bool
     }
 }
 
+/// Whether what may follow a cast to a class comes first (JLS 15.16).
 pub fn begins_operand<'a>(pieces: Pieces<'a>) -> bool
     ensures { result ≡ r.begins_operand (shown pieces.now) }
 {
@@ -31,6 +33,7 @@ pub fn begins_operand<'a>(pieces: Pieces<'a>) -> bool
     }
 }
 
+/// Whether `->` comes first, with a block behind it or not.
 pub fn begins_arrow<'a>(pieces: Pieces<'a>) -> bool
     ensures { result ≡ r.begins_arrow (shown pieces.now) }
 {
@@ -40,6 +43,7 @@ pub fn begins_arrow<'a>(pieces: Pieces<'a>) -> bool
     }
 }
 
+/// Whether `+`, `-`, `++` or `--` comes first.
 pub fn begins_sign<'a>(pieces: Pieces<'a>) -> bool
     ensures { result ≡ s.begins_sign (shown pieces.now) }
 {
@@ -98,6 +102,7 @@ pub fn after_close<'a>(pieces: Pieces<'a>) -> Pieces<'a>
     rest
 }
 
+/// Whether the pieces behind a `(` begin a cast; `after` are those behind its `)`.
 pub fn is_cast<'a>(pieces: Pieces<'a>, after: Pieces<'a>) -> bool
     requires { shown after.now ≡ r.after_close 0 (shown pieces.now) }
     ensures { result ≡ r.is_cast (shown pieces.now) }

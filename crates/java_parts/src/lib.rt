@@ -7,9 +7,7 @@ mod params;
 mod suffix;
 mod types;
 
-pub use ahead::{
-    after_close, begins_arrow, begins_inferred, begins_names, begins_sign, is_cast,
-};
+pub use ahead::{after_close, begins_arrow, begins_inferred, begins_names, begins_sign, is_cast};
 pub use names::{brackets, ident, inferred, onward};
 pub use params::{ParamsFound, TypedsFound, some_params, typed_from};
 pub use suffix::{is_least, level, next_suffix, prefix, strength, takes, top};

@@ -118,6 +118,7 @@ pub fn next_suffix<'a>(pieces: Pieces<'a>) -> Option<(Suffix, Pieces<'a>)>
     }
 }
 
+/// The level of the form that the operator makes: 4 for `||` up to 13 for `*`.
 pub fn level(op: BinaryOp) -> usize
     ensures { result ≡ s.level op }
 {
@@ -127,23 +128,15 @@ pub fn level(op: BinaryOp) -> usize
         BinaryOp::BitOr => 6,
         BinaryOp::BitXor => 7,
         BinaryOp::BitAnd => 8,
-        BinaryOp::Equal
-        | BinaryOp::NotEqual => 9,
-        BinaryOp::Less
-        | BinaryOp::LessEqual
-        | BinaryOp::Greater
-        | BinaryOp::GreaterEqual(_) => 10,
-        BinaryOp::ShiftLeft
-        | BinaryOp::ShiftRight(_)
-        | BinaryOp::ShiftUnsigned(_, _) => 11,
-        BinaryOp::Add
-        | BinaryOp::Subtract => 12,
-        BinaryOp::Multiply
-        | BinaryOp::Divide
-        | BinaryOp::Remainder => 13,
+        BinaryOp::Equal | BinaryOp::NotEqual => 9,
+        BinaryOp::Less | BinaryOp::LessEqual | BinaryOp::Greater | BinaryOp::GreaterEqual(_) => 10,
+        BinaryOp::ShiftLeft | BinaryOp::ShiftRight(_) | BinaryOp::ShiftUnsigned(_, _) => 11,
+        BinaryOp::Add | BinaryOp::Subtract => 12,
+        BinaryOp::Multiply | BinaryOp::Divide | BinaryOp::Remainder => 13,
     }
 }
 
+/// The level of the form that the suffix makes.
 pub fn strength(suffix: Suffix) -> usize
     ensures { result ≡ r.strength suffix }
 {
@@ -175,8 +168,9 @@ pub fn top(e: &JExpr) -> usize
     }
 }
 
+/// Whether it may stand before an assignment operator (JLS 15.26).
 #[tactic(auto, unfolding(java_tree::specs::Trees::is_left))]
-pub fn is_left(e: &JExpr) -> bool
+fn is_left(e: &JExpr) -> bool
     ensures { result ≡ s.is_left e.now }
 {
     match e {
@@ -241,6 +235,7 @@ pub fn takes(suffix: Suffix, left: &JExpr) -> bool
     }
 }
 
+/// The operator that the mark is before an operand.
 pub fn prefix(mark: Mark) -> Option<PrefixOp>
     ensures { result ≡ r.prefix_by mark }
 {

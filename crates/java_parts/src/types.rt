@@ -13,6 +13,7 @@ use java_pieces::{Head, Pieces, comma, first};
 use java_tree::{JBrackets, JQualified, JType, Keyword, Mark, Position, Primitive};
 use sqlite_items::{Boxed, Items};
 use std::alloc::Global;
+
 /// A type and its depth.
 #[derive(Drop)]
 pub struct TypeFound {
@@ -28,6 +29,7 @@ pub struct TypesFound {
     pub deepest: usize,
 }
 
+/// The primitive type that the word names.
 pub fn primitive(word: Keyword) -> Option<Primitive>
     ensures { result ≡ r.primitive_by word }
 {
@@ -42,6 +44,7 @@ pub fn primitive(word: Keyword) -> Option<Primitive>
     }
 }
 
+/// The `>` that comes first, and whether another `>` or a `=` stands directly behind it.
 pub fn closes<'a>(pieces: Pieces<'a>) -> Option<((bool, Position), Pieces<'a>)>
     ensures { Finds (r.closes (shown pieces.now)) result }
 {
@@ -52,6 +55,7 @@ pub fn closes<'a>(pieces: Pieces<'a>) -> Option<((bool, Position), Pieces<'a>)>
     }
 }
 
+/// The larger of two numbers.
 pub fn larger(a: usize, b: usize) -> usize
     ensures { result ≡ max a b }
 {

@@ -55,6 +55,7 @@ ends_mark m.Comma = 0
 ends_mark m.Colon = 0
 ends_mark m.CloseSquare = 0
 ends_mark m.CloseCurly = 0
+ends_mark m.Semicolon = 0
 ends_mark _ = 99
 
 abbrev ends : Tokens → ℕ
@@ -224,7 +225,7 @@ bound_by _ = 34
 abbrev pub bound : JExpr → ℕ
 bound x = bound_by (out-JExpr x)
 
-level_small : (op : BinaryOp) → level op ≤ 13
+pub level_small : (op : BinaryOp) → level op ≤ 13
 level_small op.OrElse = omega arith
 level_small op.AndAlso = omega arith
 level_small op.BitOr = omega arith
@@ -597,7 +598,7 @@ module _ (d : ℕ) (again : Again d) where
         typed_from_again ps commas rp ts b all,
       ) h
 
-  args_again : (args : List JExpr) (commas : List Position) (rp : Position) (body : Option Span) (rest : Tokens) → AreBetween commas args → AllByRecursion (Stands d any_level) args
+  pub args_again : (args : List JExpr) (commas : List Position) (rp : Position) (body : Option Span) (rest : Tokens) → AreBetween commas args → AllByRecursion (Stands d any_level) args
       → r.args_from types base typed sub (listed commas (map tokens args) ++ args_close rp body ∷ rest) ≡ Some ((args, commas), args_close rp body ∷ rest)
   unfolding r.args_from
   args_again [] commas rp body rest b all = rw (b, args_end_again rp body rest) refl

@@ -38,7 +38,7 @@ pub tokens_out : (x : JExpr) → tokens x ≡ tokens_by (map-JExpr JExpr Tokens 
 unfolding tokens
 tokens_out x = fold_out-JExpr Tokens tokens_by x
 
-type_tokens_out : (x : JType) → type_tokens x ≡ type_tokens_by (map-JType JType Tokens type_tokens (out-JType x))
+pub type_tokens_out : (x : JType) → type_tokens x ≡ type_tokens_by (map-JType JType Tokens type_tokens (out-JType x))
 unfolding type_tokens
 type_tokens_out x = fold_out-JType Tokens type_tokens_by x
 
@@ -522,7 +522,7 @@ typed_begin d (p ∷ ps) commas rp rest all =
 
 -- ---- a name with `<` and `>` behind it, or a type
 
-dotted_past : (xs : List JDotted) (rest : Tokens) → (dotted (dotted_tokens xs ++ rest)).1 ≡ (dotted rest).1
+pub dotted_past : (xs : List JDotted) (rest : Tokens) → (dotted (dotted_tokens xs ++ rest)).1 ≡ (dotted rest).1
 unfolding dotted
 dotted_past [] rest = refl
 dotted_past (x ∷ xs) rest = dotted_past xs rest

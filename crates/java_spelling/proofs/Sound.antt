@@ -39,11 +39,11 @@ use Rattle.java_spelling.proofs.First.{first, sign_same}
 
 -- ---- single tokens
 
-close_only : (ts : Tokens) (c : Position × Tokens) → r.close ts ≡ Some c → ts ≡ Token.Sign m.CloseRound c.0 ∷ c.1
+pub close_only : (ts : Tokens) (c : Position × Tokens) → r.close ts ≡ Some c → ts ≡ Token.Sign m.CloseRound c.0 ∷ c.1
 close_only (Token.Sign m.CloseRound at ∷ rest) c e = let same : (at, rest) ≡ c = some_same e in ap (λ (x : Position × Tokens). Token.Sign m.CloseRound x.0 ∷ x.1) same
 close_only _ c e = absurd (cc e)
 
-colon_only : (ts : Tokens) (c : Position × Tokens) → r.colon ts ≡ Some c → ts ≡ Token.Sign m.Colon c.0 ∷ c.1
+pub colon_only : (ts : Tokens) (c : Position × Tokens) → r.colon ts ≡ Some c → ts ≡ Token.Sign m.Colon c.0 ∷ c.1
 colon_only (Token.Sign m.Colon at ∷ rest) c e = let same : (at, rest) ≡ c = some_same e in ap (λ (x : Position × Tokens). Token.Sign m.Colon x.0 ∷ x.1) same
 colon_only _ c e = absurd (cc e)
 
@@ -326,7 +326,7 @@ module _ (d : ℕ) (sound : Sounds d) where
     | inr a ↦ else_sound lp ts x a.1
   ]
 
-  args_sound : (ts : Tokens) (x : r.Listed JExpr × Tokens) → r.args_from (r.type_read d) (r.base_read d) (r.typed_read d) (r.read d) ts ≡ Some x
+  pub args_sound : (ts : Tokens) (x : r.Listed JExpr × Tokens) → r.args_from (r.type_read d) (r.base_read d) (r.typed_read d) (r.read d) ts ≡ Some x
       → (ts ≡ listed x.0.1 (map tokens x.0.0) ++ x.1) × AreBetween x.0.1 x.0.0 × AllByRecursion (Stands d any_level) x.0.0
   unfolding r.args_from
   args_sound ts x h = elim (maybe_is (r.args_end ts) _ _ _ h) [

@@ -1,16 +1,20 @@
 //! The tokens of a tree.
 
-ghost use Rattle.std.specs.Prelude.{◌≡◌, ◌++◌, [], ◌∷◌, IfOk, map};
+ghost use Rattle.std.specs.Prelude.{◌≡◌, ◌-◌, ◌++◌, [], ◌∷◌, IfOk, Bool, true, drop, map, take};
 ghost use Rattle.java_tree.specs.Trees as s;
-ghost use Rattle.java_tree.specs.Seen.{Token, kind_seen, seen};
+ghost use Rattle.java_tree.specs.Seen.{Token, body_tokens, expanded, kind_seen, seen, word_seen};
+ghost use Rattle.java_writing.specs.Forms.{Form, form, spelled};
 ghost use Rattle.java_tree.specs.declared.tokens.Mark.TheVariants as m;
+ghost use Rattle.java_tree.specs.declared.tokens.Keyword.TheVariants as w;
 ghost use Rattle.java_tree.specs.declared.tokens.Position.{Position};
 
 use j2k_base::{Name, NoMemory, Units};
 use java_tree::{
-    AssignOp, BinaryOp, JExpr, JLiteral, JParam, JParams, JToken, JType, Keyword, Mark, Position,
-    PostfixOp, PrefixOp, Primitive, TokenKind,
+    AssignOp, BinaryOp, JBrackets, JCreated, JDotted, JExpr, JLiteral, JParam, JParams, JQualified,
+    JToken, JType, JTypedParam, Keyword, Mark, Position, PostfixOp, PrefixOp, Primitive, Span,
+    TokenKind,
 };
+use sqlite_items::Items;
 use std::alloc::Global;
 
 fn copied(alloc: Global, name: &Name) -> Result<Name, NoMemory>
@@ -32,6 +36,12 @@ fn put(out: &mut Vec<JToken>, mark: Mark, at: Position) -> Result<(), NoMemory>
     ensures { IfOk result (λ u. seen out.new.items ≡ seen out.old.items ++ Token.Sign mark at ∷ []) }
 {
     put_token(out, TokenKind::Mark(mark), at)
+}
+
+fn put_keyword(out: &mut Vec<JToken>, word: Keyword, at: Position) -> Result<(), NoMemory>
+    ensures { IfOk result (λ u. seen out.new.items ≡ seen out.old.items ++ word_seen word at ∷ []) }
+{
+    put_token(out, TokenKind::Keyword(word), at)
 }
 
 fn put_word(alloc: Global, out: &mut Vec<JToken>, name: &Name, at: Position) -> Result<(), NoMemory>
@@ -227,18 +237,39 @@ fn param_list(
     other_params(alloc, out, more, commas)
 }
 
+/// The names behind a name.
 #[tactic(auto, using(crate::proofs::SpellParts::joins))]
-fn put_params(alloc: Global, out: &mut Vec<JToken>, params: &JParams) -> Result<(), NoMemory>
-    ensures { IfOk result (λ u. seen out.new.items ≡ seen out.old.items ++ s.params_tokens params.now) }
+fn put_dotted(alloc: Global, out: &mut Vec<JToken>, rest: &[JDotted]) -> Result<(), NoMemory>
+    ensures { IfOk result (λ u. seen out.new.items ≡ seen out.old.items ++ s.dotted_tokens rest.entry.now) }
 {
-    match params {
-        JParams::One(param) => put_word(alloc, out, &param.name, param.at),
-        JParams::Several(lp, items, commas, rp) => {
-            put(out, Mark::OpenRound, *lp)?;
-            param_list(alloc, out, items.as_slice(), commas.as_slice())?;
-            put(out, Mark::CloseRound, *rp)
-        }
+    let mut rest = rest;
+    while let [item, more @ ..] = rest {
+        put(out, Mark::Dot, item.dot)?;
+        put_word(alloc, out, &item.name, item.at)?;
+        rest = more;
     }
+    Ok(())
+}
+
+#[tactic(auto, using(crate::proofs::SpellParts::joins))]
+fn put_qualified(alloc: Global, out: &mut Vec<JToken>, name: &JQualified) -> Result<(), NoMemory>
+    ensures { IfOk result (λ u. seen out.new.items ≡ seen out.old.items ++ s.qualified_tokens name.now) }
+{
+    put_word(alloc, out, &name.name, name.at)?;
+    put_dotted(alloc, out, name.rest.as_slice())
+}
+
+#[tactic(auto, using(crate::proofs::SpellParts::joins))]
+fn put_brackets(out: &mut Vec<JToken>, pairs: &[JBrackets]) -> Result<(), NoMemory>
+    ensures { IfOk result (λ u. seen out.new.items ≡ seen out.old.items ++ s.brackets_tokens pairs.entry.now) }
+{
+    let mut pairs = pairs;
+    while let [pair, more @ ..] = pairs {
+        put(out, Mark::OpenSquare, pair.opens)?;
+        put(out, Mark::CloseSquare, pair.closes)?;
+        pairs = more;
+    }
+    Ok(())
 }
 
 #[cycle(spell_types)]
@@ -247,15 +278,17 @@ fn put_type(alloc: Global, out: &mut Vec<JToken>, x: &JType) -> Result<(), NoMem
     ensures { IfOk result (λ u. seen out.new.items ≡ seen out.old.items ++ s.type_tokens x.now) }
 {
     match x {
-        JType::Primitive(kind, at) => {
-            put_token(out, TokenKind::Keyword(primitive_word(*kind)), *at)
-        },
-        JType::Class(name, at) => put_word(alloc, out, name, *at),
-        JType::Applied(name, at, lp, items, commas, is_joined, close) => {
-            put_word(alloc, out, name, *at)?;
+        JType::Primitive(kind, at) => put_keyword(out, primitive_word(*kind), *at),
+        JType::Class(name) => put_qualified(alloc, out, name),
+        JType::Applied(name, lp, items, commas, is_joined, close) => {
+            put_qualified(alloc, out, name)?;
             put(out, Mark::Less, *lp)?;
             put_types(alloc, out, items.as_slice(), commas.as_slice())?;
             put(out, closing(*is_joined), *close)
+        }
+        JType::Array(element, pairs) => {
+            put_type(alloc, out, element.get())?;
+            put_brackets(out, pairs.as_slice())
         }
     }
 }
@@ -301,123 +334,33 @@ fn other_types(
     Ok(())
 }
 
-#[cycle(spell_exprs)]
 #[tactic(auto, using(crate::proofs::SpellParts::joins))]
-fn put_expr(alloc: Global, out: &mut Vec<JToken>, x: &JExpr) -> Result<(), NoMemory>
-    ensures { IfOk result (λ u. seen out.new.items ≡ seen out.old.items ++ s.tokens x.now) }
+fn put_final(out: &mut Vec<JToken>, is_final: Option<Position>) -> Result<(), NoMemory>
+    ensures { IfOk result (λ u. seen out.new.items ≡ seen out.old.items ++ s.final_tokens is_final) }
 {
-    match x {
-        JExpr::Name(name, at) => put_word(alloc, out, name, *at),
-        JExpr::Literal(literal, at) => put_literal(alloc, out, literal, *at),
-        JExpr::This(at) => put_token(out, TokenKind::Keyword(Keyword::This), *at),
-        JExpr::Paren(lp, inner, rp) => {
-            put(out, Mark::OpenRound, *lp)?;
-            put_expr(alloc, out, inner.get())?;
-            put(out, Mark::CloseRound, *rp)
-        }
-        JExpr::Call(name, at, lp, items, commas, rp) => {
-            put_word(alloc, out, name, *at)?;
-            put(out, Mark::OpenRound, *lp)?;
-            put_args(alloc, out, items.as_slice(), commas.as_slice())?;
-            put(out, Mark::CloseRound, *rp)
-        }
-        JExpr::SuperCall(above, dot, name, at, lp, items, commas, rp) => {
-            put_token(out, TokenKind::Keyword(Keyword::Super), *above)?;
-            put(out, Mark::Dot, *dot)?;
-            put_word(alloc, out, name, *at)?;
-            put(out, Mark::OpenRound, *lp)?;
-            put_args(alloc, out, items.as_slice(), commas.as_slice())?;
-            put(out, Mark::CloseRound, *rp)
-        }
-        JExpr::Method(left, dot, name, at, lp, items, commas, rp) => {
-            put_expr(alloc, out, left.get())?;
-            put(out, Mark::Dot, *dot)?;
-            put_word(alloc, out, name, *at)?;
-            put(out, Mark::OpenRound, *lp)?;
-            put_args(alloc, out, items.as_slice(), commas.as_slice())?;
-            put(out, Mark::CloseRound, *rp)
-        }
-        JExpr::Element(left, lp, index, rp) => {
-            put_expr(alloc, out, left.get())?;
-            put(out, Mark::OpenSquare, *lp)?;
-            put_expr(alloc, out, index.get())?;
-            put(out, Mark::CloseSquare, *rp)
-        }
-        JExpr::Postfix(left, op, at) => {
-            put_expr(alloc, out, left.get())?;
-            put(out, postfix_mark(*op), *at)
-        }
-        JExpr::Instanceof(left, at, to) => {
-            put_expr(alloc, out, left.get())?;
-            put_token(out, TokenKind::Keyword(Keyword::Instanceof), *at)?;
-            put_type(alloc, out, to)
-        }
-        JExpr::Field(left, dot, name, at) => {
-            put_expr(alloc, out, left.get())?;
-            put(out, Mark::Dot, *dot)?;
-            put_word(alloc, out, name, *at)
-        }
-        JExpr::Prefix(op, at, inner) => {
-            put(out, prefix_mark(*op), *at)?;
-            put_expr(alloc, out, inner.get())
-        }
-        JExpr::Cast(lp, to, rp, inner) => {
-            put(out, Mark::OpenRound, *lp)?;
-            put_type(alloc, out, to)?;
-            put(out, Mark::CloseRound, *rp)?;
-            put_expr(alloc, out, inner.get())
-        }
-        JExpr::Binary(left, op, at, right) => {
-            put_expr(alloc, out, left.get())?;
-            put_operator(out, *op, *at)?;
-            put_expr(alloc, out, right.get())
-        }
-        JExpr::Conditional(left, question, middle, colon, last) => {
-            put_expr(alloc, out, left.get())?;
-            put(out, Mark::Question, *question)?;
-            put_expr(alloc, out, middle.get())?;
-            put(out, Mark::Colon, *colon)?;
-            put_expr(alloc, out, last.get())
-        }
-        JExpr::Assign(left, op, at, right) => {
-            put_expr(alloc, out, left.get())?;
-            put_assign(out, *op, *at)?;
-            put_expr(alloc, out, right.get())
-        }
-        JExpr::Lambda(params, at, body) => {
-            put_params(alloc, out, params)?;
-            put(out, Mark::Arrow, *at)?;
-            put_expr(alloc, out, body.get())
-        }
+    match is_final {
+        None => Ok(()),
+        Some(at) => put_keyword(out, Keyword::Final, at),
     }
 }
 
-#[cycle(spell_exprs)]
 #[tactic(auto, using(crate::proofs::SpellParts::joins))]
-fn put_args(
-    alloc: Global,
-    out: &mut Vec<JToken>,
-    items: &[JExpr],
-    commas: &[Position],
-) -> Result<(), NoMemory>
-    ensures { IfOk result (λ u. seen out.new.items ≡ seen out.old.items ++ s.listed commas.now (map s.tokens items.now)) }
+fn put_typed(alloc: Global, out: &mut Vec<JToken>, param: &JTypedParam) -> Result<(), NoMemory>
+    ensures { IfOk result (λ u. seen out.new.items ≡ seen out.old.items ++ s.typed_tokens param.now) }
 {
-    let [first, more @ ..] = items else {
-        return Ok(());
-    };
-    put_expr(alloc, out, first)?;
-    other_args(alloc, out, more, commas)
+    put_final(out, param.is_final)?;
+    put_type(alloc, out, &param.kind)?;
+    put_word(alloc, out, &param.name, param.at)
 }
 
-#[cycle(spell_exprs)]
 #[tactic(auto, using(crate::proofs::SpellParts::joins))]
-fn other_args(
+fn other_typed(
     alloc: Global,
     out: &mut Vec<JToken>,
-    items: &[JExpr],
+    items: &[JTypedParam],
     commas: &[Position],
 ) -> Result<(), NoMemory>
-    ensures { IfOk result (λ u. seen out.new.items ≡ seen out.old.items ++ s.more_tokens commas.entry.now (map s.tokens items.entry.now)) }
+    ensures { IfOk result (λ u. seen out.new.items ≡ seen out.old.items ++ s.more_tokens commas.entry.now (map s.typed_tokens items.entry.now)) }
 {
     let mut items = items;
     let mut commas = commas;
@@ -426,19 +369,487 @@ fn other_args(
             return Ok(());
         };
         put(out, Mark::Comma, *at)?;
-        put_expr(alloc, out, item)?;
+        put_typed(alloc, out, item)?;
         items = more;
         commas = rest;
     }
     Ok(())
 }
 
-/// The tokens of a tree, from the first to the last.
 #[tactic(auto, using(crate::proofs::SpellParts::joins))]
-pub fn spell(alloc: Global, x: &JExpr) -> Result<Vec<JToken>, NoMemory>
-    ensures { IfOk result (λ v. seen v.items ≡ s.tokens x.now) }
+fn typed_list(
+    alloc: Global,
+    out: &mut Vec<JToken>,
+    items: &[JTypedParam],
+    commas: &[Position],
+) -> Result<(), NoMemory>
+    ensures { IfOk result (λ u. seen out.new.items ≡ seen out.old.items ++ s.listed commas.now (map s.typed_tokens items.now)) }
+{
+    let [first, more @ ..] = items else {
+        return Ok(());
+    };
+    put_typed(alloc, out, first)?;
+    other_typed(alloc, out, more, commas)
+}
+
+#[tactic(auto, using(crate::proofs::SpellParts::joins))]
+fn put_params(alloc: Global, out: &mut Vec<JToken>, params: &JParams) -> Result<(), NoMemory>
+    ensures { IfOk result (λ u. seen out.new.items ≡ seen out.old.items ++ s.params_tokens params.now) }
+{
+    match params {
+        JParams::One(param) => put_word(alloc, out, &param.name, param.at),
+        JParams::Several(lp, items, commas, rp) => {
+            put(out, Mark::OpenRound, *lp)?;
+            param_list(alloc, out, items.as_slice(), commas.as_slice())?;
+            put(out, Mark::CloseRound, *rp)
+        }
+        JParams::Typed(lp, items, commas, rp) => {
+            put(out, Mark::OpenRound, *lp)?;
+            typed_list(alloc, out, items.as_slice(), commas.as_slice())?;
+            put(out, Mark::CloseRound, *rp)
+        }
+    }
+}
+
+#[tactic(auto, using(crate::proofs::SpellParts::joins))]
+fn put_created(alloc: Global, out: &mut Vec<JToken>, made: &JCreated) -> Result<(), NoMemory>
+    ensures { IfOk result (λ u. seen out.new.items ≡ seen out.old.items ++ s.created_tokens made.now) }
+{
+    match made {
+        JCreated::Type(kind) => put_type(alloc, out, kind),
+        JCreated::Inferred(name, lp, is_joined, close) => {
+            put_qualified(alloc, out, name)?;
+            put(out, Mark::Less, *lp)?;
+            put(out, closing(*is_joined), *close)
+        }
+    }
+}
+
+fn copied_kind(alloc: Global, kind: &TokenKind) -> Result<TokenKind, NoMemory>
+    ensures { IfOk result (λ copy. copy ≡ kind.now) }
+{
+    match kind {
+        TokenKind::Mark(mark) => Ok(TokenKind::Mark(*mark)),
+        TokenKind::Keyword(word) => Ok(TokenKind::Keyword(*word)),
+        TokenKind::Name(name) => Ok(TokenKind::Name(copied(alloc, name)?)),
+        TokenKind::Integer(n) => Ok(TokenKind::Integer(*n)),
+        TokenKind::LeastInteger => Ok(TokenKind::LeastInteger),
+        TokenKind::Long(n) => Ok(TokenKind::Long(*n)),
+        TokenKind::LeastLong => Ok(TokenKind::LeastLong),
+        TokenKind::Character(unit) => Ok(TokenKind::Character(*unit)),
+        TokenKind::Text(units) => {
+            let units = Vec::from_slice(alloc, units.as_slice())?;
+            Ok(TokenKind::Text(Units::from_vec(units)))
+        }
+    }
+}
+
+#[tactic(auto, using(crate::proofs::SpellParts::joins), unfolding(java_tree::specs::Seen::seen))]
+fn put_copies(alloc: Global, out: &mut Vec<JToken>, tokens: &[JToken]) -> Result<(), NoMemory>
+    ensures { IfOk result (λ u. seen out.new.items ≡ seen out.old.items ++ seen tokens.entry.now) }
+{
+    let mut tokens = tokens;
+    while let [token, more @ ..] = tokens {
+        put_token(out, copied_kind(alloc, &token.kind)?, token.position)?;
+        tokens = more;
+    }
+    Ok(())
+}
+
+/// The tokens from the number `from` to before the number `to`, as far as there are any.
+fn part(file: &[JToken], from: usize, to: usize) -> &[JToken]
+    ensures { result.now ≡ take (to - from) (drop from file.now) }
+{
+    let rest = if from < file.len() {
+        &file[from..]
+    } else {
+        &[]
+    };
+    let count = to.saturating_sub(from);
+    if count < rest.len() {
+        &rest[..count]
+    } else {
+        rest
+    }
+}
+
+/// A body with its braces.
+#[tactic(auto, using(crate::proofs::SpellParts::joins))]
+fn put_body(
+    alloc: Global,
+    out: &mut Vec<JToken>,
+    file: &[JToken],
+    body: Span,
+) -> Result<(), NoMemory>
+    ensures { IfOk result (λ u. seen out.new.items ≡ seen out.old.items ++ body_tokens (seen file.now) body) }
+{
+    put(out, Mark::OpenCurly, body.opens)?;
+    put_copies(alloc, out, part(file, body.from as usize, body.to as usize))?;
+    put(out, Mark::CloseCurly, body.closes)
+}
+
+/// The `)` behind arguments, with the body of an anonymous class where there is one.
+#[tactic(auto, using(crate::proofs::SpellParts::joins))]
+fn put_close(
+    alloc: Global,
+    out: &mut Vec<JToken>,
+    file: &[JToken],
+    rp: Position,
+    body: Option<Span>,
+) -> Result<(), NoMemory>
+    ensures { IfOk result (λ u. seen out.new.items ≡ seen out.old.items ++ expanded (seen file.now) (s.args_close rp body ∷ [])) }
+{
+    put(out, Mark::CloseRound, rp)?;
+    match body {
+        None => Ok(()),
+        Some(body) => put_body(alloc, out, file, body),
+    }
+}
+
+/// A comma behind the last value, where there is one.
+#[tactic(auto, using(crate::proofs::SpellParts::joins))]
+fn put_trailing(out: &mut Vec<JToken>, more: Option<Position>) -> Result<(), NoMemory>
+    ensures { IfOk result (λ u. seen out.new.items ≡ seen out.old.items ++ s.trailing more) }
+{
+    match more {
+        None => Ok(()),
+        Some(at) => put(out, Mark::Comma, at),
+    }
+}
+
+#[tactic(auto, using(crate::proofs::SpellParts::joins))]
+fn put_member(
+    alloc: Global,
+    out: &mut Vec<JToken>,
+    dot: Position,
+    name: &Name,
+    at: Position,
+) -> Result<(), NoMemory>
+    ensures { IfOk result (λ u. seen out.new.items ≡ seen out.old.items ++ Token.Sign m.Dot dot ∷ Token.Id name.now at ∷ []) }
+{
+    put(out, Mark::Dot, dot)?;
+    put_word(alloc, out, name, at)
+}
+
+fn put_new(out: &mut Vec<JToken>, at: Position) -> Result<(), NoMemory>
+    ensures { IfOk result (λ u. seen out.new.items ≡ seen out.old.items ++ Token.Word w.New at ∷ []) }
+{
+    put_keyword(out, Keyword::New, at)
+}
+
+/// `new` and the type of the elements of an array.
+#[tactic(auto, using(crate::proofs::SpellParts::joins))]
+fn put_element(
+    alloc: Global,
+    out: &mut Vec<JToken>,
+    at: Position,
+    element: &JType,
+) -> Result<(), NoMemory>
+    ensures { IfOk result (λ u. seen out.new.items ≡ seen out.old.items ++ Token.Word w.New at ∷ s.type_tokens element.now) }
+{
+    put_new(out, at)?;
+    put_type(alloc, out, element)
+}
+
+#[cycle(spell_exprs)]
+#[tactic(auto, using(crate::proofs::SpellParts::joins))]
+fn put_expr(
+    alloc: Global,
+    out: &mut Vec<JToken>,
+    file: &[JToken],
+    x: &JExpr,
+) -> Result<(), NoMemory>
+    ensures { IfOk result (λ u. seen out.new.items ≡ seen out.old.items ++ spelled (seen file.now) x.now) }
+{
+    match x {
+        JExpr::Name(name, at) => put_word(alloc, out, name, *at),
+        JExpr::Literal(literal, at) => put_literal(alloc, out, literal, *at),
+        JExpr::This(at) => put_keyword(out, Keyword::This, *at),
+        JExpr::Paren(lp, inner, rp) => {
+            put(out, Mark::OpenRound, *lp)?;
+            put_expr(alloc, out, file, inner.get())?;
+            put(out, Mark::CloseRound, *rp)
+        }
+        JExpr::Call(name, at, lp, items, commas, rp) => {
+            put_word(alloc, out, name, *at)?;
+            put_args(alloc, out, file, *lp, items, commas, *rp)
+        }
+        JExpr::Prefix(..) | JExpr::MinusLeast(..) | JExpr::Cast(..) => put_prefixed(
+            alloc, out, file, x,
+        ),
+        JExpr::Binary(..) | JExpr::Instanceof(..) | JExpr::Conditional(..) | JExpr::Assign(..) => {
+            put_joined(alloc, out, file, x)
+        }
+        JExpr::Lambda(..) | JExpr::LambdaBlock(..) => put_lambda(alloc, out, file, x),
+        JExpr::New(..) | JExpr::NewArray(..) | JExpr::NewFilled(..) | JExpr::Braces(..) => {
+            put_made(alloc, out, file, x)
+        }
+        _ => put_access(alloc, out, file, x),
+    }
+}
+
+/// An operator or a type before its operand, and nothing for another form.
+#[cycle(spell_exprs)]
+#[tactic(auto, using(crate::proofs::SpellParts::joins))]
+fn put_prefixed(
+    alloc: Global,
+    out: &mut Vec<JToken>,
+    file: &[JToken],
+    x: &JExpr,
+) -> Result<(), NoMemory>
+    ensures { IfOk result (λ u. form x.now ≡ Form.Prefixed → seen out.new.items ≡ seen out.old.items ++ spelled (seen file.now) x.now) }
+{
+    match x {
+        JExpr::Prefix(op, at, inner) => {
+            put(out, prefix_mark(*op), *at)?;
+            put_expr(alloc, out, file, inner.get())
+        }
+        JExpr::MinusLeast(minus, literal, at) => {
+            put(out, Mark::Minus, *minus)?;
+            put_literal(alloc, out, literal, *at)
+        }
+        JExpr::Cast(lp, to, rp, inner) => {
+            put(out, Mark::OpenRound, *lp)?;
+            put_type(alloc, out, to)?;
+            put(out, Mark::CloseRound, *rp)?;
+            put_expr(alloc, out, file, inner.get())
+        }
+        _ => Ok(()),
+    }
+}
+
+/// A member, an element, or an operator behind its operand, and nothing for another form.
+#[cycle(spell_exprs)]
+#[tactic(auto, using(crate::proofs::SpellParts::joins))]
+fn put_access(
+    alloc: Global,
+    out: &mut Vec<JToken>,
+    file: &[JToken],
+    x: &JExpr,
+) -> Result<(), NoMemory>
+    ensures { IfOk result (λ u. form x.now ≡ Form.Access → seen out.new.items ≡ seen out.old.items ++ spelled (seen file.now) x.now) }
+{
+    match x {
+        JExpr::SuperCall(above, dot, name, at, lp, items, commas, rp) => {
+            put_keyword(out, Keyword::Super, *above)?;
+            put_member(alloc, out, *dot, name, *at)?;
+            put_args(alloc, out, file, *lp, items, commas, *rp)
+        }
+        JExpr::Field(left, dot, name, at) => {
+            put_expr(alloc, out, file, left.get())?;
+            put_member(alloc, out, *dot, name, *at)
+        }
+        JExpr::Method(left, dot, name, at, lp, items, commas, rp) => {
+            put_expr(alloc, out, file, left.get())?;
+            put_member(alloc, out, *dot, name, *at)?;
+            put_args(alloc, out, file, *lp, items, commas, *rp)
+        }
+        JExpr::Element(left, lp, index, rp) => {
+            put_expr(alloc, out, file, left.get())?;
+            put(out, Mark::OpenSquare, *lp)?;
+            put_expr(alloc, out, file, index.get())?;
+            put(out, Mark::CloseSquare, *rp)
+        }
+        JExpr::Postfix(left, op, at) => {
+            put_expr(alloc, out, file, left.get())?;
+            put(out, postfix_mark(*op), *at)
+        }
+        _ => Ok(()),
+    }
+}
+
+/// An operator between its operands, and nothing for another form.
+#[cycle(spell_exprs)]
+#[tactic(auto, using(crate::proofs::SpellParts::joins))]
+fn put_joined(
+    alloc: Global,
+    out: &mut Vec<JToken>,
+    file: &[JToken],
+    x: &JExpr,
+) -> Result<(), NoMemory>
+    ensures { IfOk result (λ u. form x.now ≡ Form.Joined → seen out.new.items ≡ seen out.old.items ++ spelled (seen file.now) x.now) }
+{
+    match x {
+        JExpr::Binary(left, op, at, right) => {
+            put_expr(alloc, out, file, left.get())?;
+            put_operator(out, *op, *at)?;
+            put_expr(alloc, out, file, right.get())
+        }
+        JExpr::Instanceof(left, at, to) => {
+            put_expr(alloc, out, file, left.get())?;
+            put_keyword(out, Keyword::Instanceof, *at)?;
+            put_type(alloc, out, to)
+        }
+        JExpr::Conditional(left, question, middle, colon, last) => {
+            put_expr(alloc, out, file, left.get())?;
+            put(out, Mark::Question, *question)?;
+            put_expr(alloc, out, file, middle.get())?;
+            put(out, Mark::Colon, *colon)?;
+            put_expr(alloc, out, file, last.get())
+        }
+        JExpr::Assign(left, op, at, right) => {
+            put_expr(alloc, out, file, left.get())?;
+            put_assign(out, *op, *at)?;
+            put_expr(alloc, out, file, right.get())
+        }
+        _ => Ok(()),
+    }
+}
+
+/// A lambda, and nothing for another form.
+#[cycle(spell_exprs)]
+#[tactic(auto, using(crate::proofs::SpellParts::joins))]
+fn put_lambda(
+    alloc: Global,
+    out: &mut Vec<JToken>,
+    file: &[JToken],
+    x: &JExpr,
+) -> Result<(), NoMemory>
+    ensures { IfOk result (λ u. form x.now ≡ Form.Lambda → seen out.new.items ≡ seen out.old.items ++ spelled (seen file.now) x.now) }
+{
+    match x {
+        JExpr::Lambda(params, at, body) => {
+            put_params(alloc, out, params)?;
+            put(out, Mark::Arrow, *at)?;
+            put_expr(alloc, out, file, body.get())
+        }
+        JExpr::LambdaBlock(params, at, body) => {
+            put_params(alloc, out, params)?;
+            put(out, Mark::Arrow, *at)?;
+            put_body(alloc, out, file, *body)
+        }
+        _ => Ok(()),
+    }
+}
+
+/// An object or an array that is created, or the values of an array, and nothing for another form.
+#[cycle(spell_exprs)]
+#[tactic(auto, using(crate::proofs::SpellParts::joins))]
+fn put_made(
+    alloc: Global,
+    out: &mut Vec<JToken>,
+    file: &[JToken],
+    x: &JExpr,
+) -> Result<(), NoMemory>
+    ensures { IfOk result (λ u. form x.now ≡ Form.Made → seen out.new.items ≡ seen out.old.items ++ spelled (seen file.now) x.now) }
+{
+    match x {
+        JExpr::New(at, made, lp, items, commas, rp, body) => {
+            put_new(out, *at)?;
+            put_created(alloc, out, made)?;
+            put(out, Mark::OpenRound, *lp)?;
+            put_list(alloc, out, file, items.as_slice(), commas.as_slice())?;
+            put_close(alloc, out, file, *rp, *body)
+        }
+        JExpr::NewArray(at, element, lb, size, rb, pairs) => {
+            put_element(alloc, out, *at, element)?;
+            put(out, Mark::OpenSquare, *lb)?;
+            put_expr(alloc, out, file, size.get())?;
+            put(out, Mark::CloseSquare, *rb)?;
+            put_brackets(out, pairs.as_slice())
+        }
+        JExpr::NewFilled(at, element, pairs, lc, items, commas, more, rc) => {
+            put_element(alloc, out, *at, element)?;
+            put_brackets(out, pairs.as_slice())?;
+            put_braces(alloc, out, file, *lc, items, commas, *more, *rc)
+        }
+        JExpr::Braces(lc, items, commas, more, rc) => {
+            put_braces(alloc, out, file, *lc, items, commas, *more, *rc)
+        }
+        _ => Ok(()),
+    }
+}
+
+/// The arguments with their parentheses.
+#[cycle(spell_exprs)]
+#[tactic(auto, using(crate::proofs::SpellParts::joins))]
+fn put_args(
+    alloc: Global,
+    out: &mut Vec<JToken>,
+    file: &[JToken],
+    lp: Position,
+    items: &Items<JExpr>,
+    commas: &Items<Position>,
+    rp: Position,
+) -> Result<(), NoMemory>
+    ensures { IfOk result (λ u. seen out.new.items ≡ seen out.old.items ++ Token.Sign m.OpenRound lp ∷ (s.listed commas.now (map (spelled (seen file.now)) items.now) ++ Token.Sign m.CloseRound rp ∷ [])) }
+{
+    put(out, Mark::OpenRound, lp)?;
+    put_list(alloc, out, file, items.as_slice(), commas.as_slice())?;
+    put(out, Mark::CloseRound, rp)
+}
+
+/// The values of an array with their braces.
+#[cycle(spell_exprs)]
+#[tactic(auto, using(crate::proofs::SpellParts::joins))]
+fn put_braces(
+    alloc: Global,
+    out: &mut Vec<JToken>,
+    file: &[JToken],
+    lc: Position,
+    items: &Items<JExpr>,
+    commas: &Items<Position>,
+    more: Option<Position>,
+    rc: Position,
+) -> Result<(), NoMemory>
+    ensures { IfOk result (λ u. seen out.new.items ≡ seen out.old.items ++ s.braces_tokens lc (map (spelled (seen file.now)) items.now) commas.now more rc) }
+{
+    put(out, Mark::OpenCurly, lc)?;
+    put_list(alloc, out, file, items.as_slice(), commas.as_slice())?;
+    put_trailing(out, more)?;
+    put(out, Mark::CloseCurly, rc)
+}
+
+#[cycle(spell_exprs)]
+#[tactic(auto, using(crate::proofs::SpellParts::joins))]
+fn put_list(
+    alloc: Global,
+    out: &mut Vec<JToken>,
+    file: &[JToken],
+    items: &[JExpr],
+    commas: &[Position],
+) -> Result<(), NoMemory>
+    ensures { IfOk result (λ u. seen out.new.items ≡ seen out.old.items ++ s.listed commas.now (map (spelled (seen file.now)) items.now)) }
+{
+    let [first, more @ ..] = items else {
+        return Ok(());
+    };
+    put_expr(alloc, out, file, first)?;
+    put_others(alloc, out, file, more, commas)
+}
+
+#[cycle(spell_exprs)]
+#[tactic(auto, using(crate::proofs::SpellParts::joins))]
+fn put_others(
+    alloc: Global,
+    out: &mut Vec<JToken>,
+    file: &[JToken],
+    items: &[JExpr],
+    commas: &[Position],
+) -> Result<(), NoMemory>
+    ensures { IfOk result (λ u. seen out.new.items ≡ seen out.old.items ++ s.more_tokens commas.entry.now (map (spelled (seen file.now)) items.entry.now)) }
+{
+    let mut items = items;
+    let mut commas = commas;
+    while let [at, rest @ ..] = commas {
+        let [item, more @ ..] = items else {
+            return Ok(());
+        };
+        put(out, Mark::Comma, *at)?;
+        put_expr(alloc, out, file, item)?;
+        items = more;
+        commas = rest;
+    }
+    Ok(())
+}
+
+/// The tokens of a tree, from the first to the last. Those of its bodies are copied from the file,
+/// in which they are counted from 0.
+#[tactic(auto, using(crate::proofs::SpellParts::joins))]
+pub fn spell(alloc: Global, file: &[JToken], x: &JExpr) -> Result<Vec<JToken>, NoMemory>
+    ensures { IfOk result (λ v. seen v.items ≡ expanded (seen file.now) (s.tokens x.now)) }
 {
     let mut out = Vec::new(alloc);
-    put_expr(alloc, &mut out, x)?;
+    put_expr(alloc, &mut out, file, x)?;
     Ok(out)
 }

@@ -1,5 +1,5 @@
 -- Which bytes spell a Kotlin tree of this form.
-use Rattle.std.specs.Prelude.{◌≡◌, ℕ, ◌<◌, ◌^◌, true, false, List, [], ◌∷◌, codes}
+use Rattle.std.specs.Prelude.{◌≡◌, ℕ, ◌<◌, ◌^◌, true, false, List, [], ◌∷◌}
 use Rattle.std.specs.Char.{is_ascii_alphabetic, is_ascii_alphanumeric}
 use Rattle.meanings.specs.declared.kotlin.KOperand.{KOperand}
 use Rattle.meanings.specs.declared.kotlin.KOperand.TheVariants.{Local, Number}
@@ -10,6 +10,7 @@ use Rattle.meanings.specs.declared.kotlin.KStmt.TheVariants.{Val, Print}
 use Rattle.meanings.specs.declared.kotlin.KClass.{KClass}
 use Rattle.meanings.specs.KText.{KText}
 use Rattle.meanings.specs.Values.{Name, is_among}
+use Rattle.kotlin_words.specs.Words.{hard_keywords}
 
 -- letters and digits alone
 abbrev pub IsWord : List ℕ → Type 0
@@ -36,13 +37,6 @@ abbrev pub AreStatements : List KStmt → Type 0
 AreStatements [] = Unit {0}
 AreStatements (Val name value ∷ more) = IsIdentifier name × IsExpression value × AreStatements more
 AreStatements (Print value ∷ more) = IsExpression value × AreStatements more
-
--- the words that are no name without backticks (Kotlin, "Hard keywords")
-abbrev pub hard_keywords : List Name
-hard_keywords =
-    codes "as" ∷ codes "break" ∷ codes "class" ∷ codes "continue" ∷ codes "do" ∷ codes "else" ∷ codes "false" ∷ codes "for" ∷ codes "fun" ∷ codes "if" ∷ codes "in" ∷
-    codes "interface" ∷ codes "is" ∷ codes "null" ∷ codes "object" ∷ codes "package" ∷ codes "return" ∷ codes "super" ∷ codes "this" ∷ codes "throw" ∷ codes "true" ∷
-    codes "try" ∷ codes "typealias" ∷ codes "typeof" ∷ codes "val" ∷ codes "var" ∷ codes "when" ∷ codes "while" ∷ []
 
 -- no statement declares a hard keyword
 abbrev pub DeclareNoKeyword : List KStmt → Type 0

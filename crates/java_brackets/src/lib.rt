@@ -1,0 +1,14 @@
+//! Which brackets of a Java file pair, and which is the first at fault.
+#![tactic(auto)]
+
+mod flaws;
+mod laws;
+mod pairing;
+mod stack;
+
+pub use flaws::{Flaw, Flawed};
+pub use laws::{one_first_flaw, one_partner, pairs_match, pairs_nest};
+pub use pairing::{Paired, Partners, pairs};
+
+#[cfg(test)]
+mod tests;
