@@ -7,7 +7,6 @@ use Rattle.java_tree.specs.declared.types.JBrackets.{JBrackets}
 use Rattle.java_tree.specs.declared.types.JType.{JType}
 use Rattle.java_tree.specs.declared.exprs.PrefixOp.{PrefixOp}
 use Rattle.java_tree.specs.declared.exprs.JCreated.{JCreated}
-use Rattle.java_tree.specs.declared.exprs.JTypedParam.{JTypedParam}
 use Rattle.java_tree.specs.declared.exprs.JParam.{JParam}
 use Rattle.java_tree.specs.declared.exprs.JParams.{JParams}
 use Rattle.java_tree.specs.declared.exprs.JExpr.{JExpr}
