@@ -1,0 +1,27 @@
+//! Tests of the grammar of expressions, from texts to the shapes of their trees.
+#![tactic(auto)]
+
+#[cfg(test)]
+mod casts;
+#[cfg(test)]
+mod choices;
+#[cfg(test)]
+mod creations;
+#[cfg(test)]
+mod depths;
+#[cfg(test)]
+mod lambdas;
+#[cfg(test)]
+mod names;
+#[cfg(test)]
+mod operators;
+#[cfg(test)]
+mod parts;
+#[cfg(test)]
+mod primaries;
+#[cfg(test)]
+mod reading;
+#[cfg(test)]
+mod shapes;
+#[cfg(test)]
+mod signs;
