@@ -12,16 +12,8 @@ mod depths;
 #[cfg(test)]
 mod lambdas;
 #[cfg(test)]
-mod names;
-#[cfg(test)]
 mod operators;
-#[cfg(test)]
-mod parts;
 #[cfg(test)]
 mod primaries;
 #[cfg(test)]
 mod reading;
-#[cfg(test)]
-mod shapes;
-#[cfg(test)]
-mod signs;

@@ -1,9 +1,9 @@
 //! From a text to the shape of its tree.
 
-use crate::shapes::shape;
 use j2k_base::Text;
 use java_exprs::parse_expr;
 use java_lexer::lex;
+use java_shapes::shape;
 use java_tree::Tokens;
 use std::alloc::Global;
 use std::test::Fail;
