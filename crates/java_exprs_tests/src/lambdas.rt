@@ -1,266 +1,231 @@
 //! Lambdas.
 
-use crate::reading::{Case, shape_of};
+use crate::reading::{Case, first_wrong};
 use std::test::Fail;
 
 /// The parameters of a lambda.
 const PARAMS: [Case; 8] = [
     Case {
-        text: "x -> x",
+        text: b"x -> x",
         shape: "lambda(x, x)",
     },
     Case {
-        text: "() -> 1",
+        text: b"() -> 1",
         shape: "lambda((), 1)",
     },
     Case {
-        text: "(x) -> x",
+        text: b"(x) -> x",
         shape: "lambda((x), x)",
     },
     Case {
-        text: "(x, y, z) -> x",
+        text: b"(x, y, z) -> x",
         shape: "lambda((x, y, z), x)",
     },
     Case {
-        text: "(int x) -> x",
+        text: b"(int x) -> x",
         shape: "lambda((int x), x)",
     },
     Case {
-        text: "(A x, B y) -> x",
+        text: b"(A x, B y) -> x",
         shape: "lambda((A x, B y), x)",
     },
     Case {
-        text: "(final A<B> x, int[] y) -> x",
+        text: b"(final A<B> x, int[] y) -> x",
         shape: "lambda((final A<B> x, int[] y), x)",
     },
     Case {
-        text: "(a.B x, final C y) -> x",
+        text: b"(a.B x, final C y) -> x",
         shape: "lambda((a.B x, final C y), x)",
     },
 ];
 
 #[test]
 fn parameters(rt: HostRuntime) -> Result<(), Fail> {
-    let alloc = rt.alloc();
-    for case in PARAMS {
-        assert_eq!(rt;
-            shape_of(alloc, case.text)?.as_str(),
-            case.shape,
-            "{}",
-            case.text
-        );
-    }
+    let wrong = first_wrong(rt.alloc(), &PARAMS)?;
+    assert_eq!(rt; wrong.as_str(), "");
     Ok(())
 }
 
 /// What is no list of parameters.
 const NO_PARAMS: [Case; 9] = [
     Case {
-        text: "x, y -> x",
+        text: b"x, y -> x",
         shape: "none",
     },
     Case {
-        text: "(x, int y) -> x",
+        text: b"(x, int y) -> x",
         shape: "none",
     },
     Case {
-        text: "(int x, y) -> x",
+        text: b"(int x, y) -> x",
         shape: "none",
     },
     Case {
-        text: "(x,) -> x",
+        text: b"(x,) -> x",
         shape: "none",
     },
     Case {
-        text: "(final x) -> x",
+        text: b"(final x) -> x",
         shape: "none",
     },
     Case {
-        text: "(a.b) -> c",
+        text: b"(a.b) -> c",
         shape: "none",
     },
     Case {
-        text: "(1) -> c",
+        text: b"(1) -> c",
         shape: "none",
     },
     Case {
-        text: "((x)) -> x",
+        text: b"((x)) -> x",
         shape: "none",
     },
     Case {
-        text: "int x -> x",
+        text: b"int x -> x",
         shape: "none",
     },
 ];
 
 #[test]
 fn no_parameters(rt: HostRuntime) -> Result<(), Fail> {
-    let alloc = rt.alloc();
-    for case in NO_PARAMS {
-        assert_eq!(rt;
-            shape_of(alloc, case.text)?.as_str(),
-            case.shape,
-            "{}",
-            case.text
-        );
-    }
+    let wrong = first_wrong(rt.alloc(), &NO_PARAMS)?;
+    assert_eq!(rt; wrong.as_str(), "");
     Ok(())
 }
 
 /// The body of a lambda.
 const BODIES: [Case; 8] = [
     Case {
-        text: "x -> x + 1",
+        text: b"x -> x + 1",
         shape: "lambda(x, (x + 1))",
     },
     Case {
-        text: "x -> y = z",
+        text: b"x -> y = z",
         shape: "lambda(x, (y = z))",
     },
     Case {
-        text: "x -> y -> z",
+        text: b"x -> y -> z",
         shape: "lambda(x, lambda(y, z))",
     },
     Case {
-        text: "x -> a ? b : c",
+        text: b"x -> a ? b : c",
         shape: "lambda(x, (a ? b : c))",
     },
     Case {
-        text: "x -> { return x; }",
+        text: b"x -> { return x; }",
         shape: "lambda(x, block)",
     },
     Case {
-        text: "() -> { }",
+        text: b"() -> { }",
         shape: "lambda((), block)",
     },
     Case {
-        text: "(int x) -> { f(); { } }",
+        text: b"(int x) -> { f(); { } }",
         shape: "lambda((int x), block)",
     },
     Case {
-        text: "x -> (y)",
+        text: b"x -> (y)",
         shape: "lambda(x, paren(y))",
     },
 ];
 
 #[test]
 fn bodies(rt: HostRuntime) -> Result<(), Fail> {
-    let alloc = rt.alloc();
-    for case in BODIES {
-        assert_eq!(rt;
-            shape_of(alloc, case.text)?.as_str(),
-            case.shape,
-            "{}",
-            case.text
-        );
-    }
+    let wrong = first_wrong(rt.alloc(), &BODIES)?;
+    assert_eq!(rt; wrong.as_str(), "");
     Ok(())
 }
 
 /// Where a lambda stands.
 const PLACES: [Case; 8] = [
     Case {
-        text: "f(x -> x, 1)",
+        text: b"f(x -> x, 1)",
         shape: "f(lambda(x, x), 1)",
     },
     Case {
-        text: "f(1, () -> { g(2, 3); })",
+        text: b"f(1, () -> { g(2, 3); })",
         shape: "f(1, lambda((), block))",
     },
     Case {
-        text: "a = x -> b = c",
+        text: b"a = x -> b = c",
         shape: "(a = lambda(x, (b = c)))",
     },
     Case {
-        text: "(x -> 1)",
+        text: b"(x -> 1)",
         shape: "paren(lambda(x, 1))",
     },
     Case {
-        text: "a[x -> 1]",
+        text: b"a[x -> 1]",
         shape: "a[lambda(x, 1)]",
     },
     Case {
-        text: "new A(x -> { })",
+        text: b"new A(x -> { })",
         shape: "new A(lambda(x, block))",
     },
     Case {
-        text: "f((x) -> { }, (y) -> { })",
+        text: b"f((x) -> { }, (y) -> { })",
         shape: "f(lambda((x), block), lambda((y), block))",
     },
     Case {
-        text: "new A[] {x -> { }, () -> 1}",
+        text: b"new A[] {x -> { }, () -> 1}",
         shape: "new A[]{lambda(x, block), lambda((), 1)}",
     },
 ];
 
 #[test]
 fn places(rt: HostRuntime) -> Result<(), Fail> {
-    let alloc = rt.alloc();
-    for case in PLACES {
-        assert_eq!(rt;
-            shape_of(alloc, case.text)?.as_str(),
-            case.shape,
-            "{}",
-            case.text
-        );
-    }
+    let wrong = first_wrong(rt.alloc(), &PLACES)?;
+    assert_eq!(rt; wrong.as_str(), "");
     Ok(())
 }
 
 /// Where none stands.
 const NO_PLACES: [Case; 10] = [
     Case {
-        text: "a + x -> y",
+        text: b"a + x -> y",
         shape: "none",
     },
     Case {
-        text: "a || x -> y",
+        text: b"a || x -> y",
         shape: "none",
     },
     Case {
-        text: "!x -> y",
+        text: b"!x -> y",
         shape: "none",
     },
     Case {
-        text: "(A) x -> y",
+        text: b"(A) x -> y",
         shape: "none",
     },
     Case {
-        text: "x -> { } + 1",
+        text: b"x -> { } + 1",
         shape: "none",
     },
     Case {
-        text: "x -> { }.f()",
+        text: b"x -> { }.f()",
         shape: "none",
     },
     Case {
-        text: "x -> { } ? a : b",
+        text: b"x -> { } ? a : b",
         shape: "none",
     },
     Case {
-        text: "x -> {",
+        text: b"x -> {",
         shape: "none",
     },
     Case {
-        text: "x ->",
+        text: b"x ->",
         shape: "none",
     },
     Case {
-        text: "f() { }",
+        text: b"f() { }",
         shape: "none",
     },
 ];
 
 #[test]
 fn no_places(rt: HostRuntime) -> Result<(), Fail> {
-    let alloc = rt.alloc();
-    for case in NO_PLACES {
-        assert_eq!(rt;
-            shape_of(alloc, case.text)?.as_str(),
-            case.shape,
-            "{}",
-            case.text
-        );
-    }
+    let wrong = first_wrong(rt.alloc(), &NO_PLACES)?;
+    assert_eq!(rt; wrong.as_str(), "");
     Ok(())
 }

@@ -1,232 +1,204 @@
 //! Names, literals, calls and members.
 
-use crate::reading::{Case, shape_of};
+use crate::reading::{Case, first_wrong};
 use std::test::Fail;
 
 /// Names and literals.
 const LITERALS: [Case; 10] = [
     Case {
-        text: "a",
+        text: b"a",
         shape: "a",
     },
     Case {
-        text: "this",
+        text: b"this",
         shape: "this",
     },
     Case {
-        text: "7",
+        text: b"7",
         shape: "7",
     },
     Case {
-        text: "0x10L",
+        text: b"0x10L",
         shape: "16L",
     },
     Case {
-        text: "'A'",
+        text: b"'A'",
         shape: "'65",
     },
     Case {
-        text: "\"\"",
+        text: b"\"\"",
         shape: "text(0)",
     },
     Case {
-        text: "true",
+        text: b"true",
         shape: "true",
     },
     Case {
-        text: "false",
+        text: b"false",
         shape: "false",
     },
     Case {
-        text: "null",
+        text: b"null",
         shape: "null",
     },
     Case {
-        text: "(1)",
+        text: b"(1)",
         shape: "paren(1)",
     },
 ];
 
 #[test]
 fn leaves(rt: HostRuntime) -> Result<(), Fail> {
-    let alloc = rt.alloc();
-    for case in LITERALS {
-        assert_eq!(rt;
-            shape_of(alloc, case.text)?.as_str(),
-            case.shape,
-            "{}",
-            case.text
-        );
-    }
+    let wrong = first_wrong(rt.alloc(), &LITERALS)?;
+    assert_eq!(rt; wrong.as_str(), "");
     Ok(())
 }
 
 /// Fields, calls and elements.
 const MEMBERS: [Case; 10] = [
     Case {
-        text: "a.b.c",
+        text: b"a.b.c",
         shape: "a.b.c",
     },
     Case {
-        text: "this.a",
+        text: b"this.a",
         shape: "this.a",
     },
     Case {
-        text: "f()",
+        text: b"f()",
         shape: "f()",
     },
     Case {
-        text: "f(a, b + c)",
+        text: b"f(a, b + c)",
         shape: "f(a, (b + c))",
     },
     Case {
-        text: "a.f(b, c).g()",
+        text: b"a.f(b, c).g()",
         shape: "a.f(b, c).g()",
     },
     Case {
-        text: "super.f(a)",
+        text: b"super.f(a)",
         shape: "super.f(a)",
     },
     Case {
-        text: "a[b][c + d]",
+        text: b"a[b][c + d]",
         shape: "a[b][(c + d)]",
     },
     Case {
-        text: "a.b(c).d[e].f",
+        text: b"a.b(c).d[e].f",
         shape: "a.b(c).d[e].f",
     },
     Case {
-        text: "\"ab\".length()",
+        text: b"\"ab\".length()",
         shape: "text(2).length()",
     },
     Case {
-        text: "(a).b",
+        text: b"(a).b",
         shape: "paren(a).b",
     },
 ];
 
 #[test]
 fn members(rt: HostRuntime) -> Result<(), Fail> {
-    let alloc = rt.alloc();
-    for case in MEMBERS {
-        assert_eq!(rt;
-            shape_of(alloc, case.text)?.as_str(),
-            case.shape,
-            "{}",
-            case.text
-        );
-    }
+    let wrong = first_wrong(rt.alloc(), &MEMBERS)?;
+    assert_eq!(rt; wrong.as_str(), "");
     Ok(())
 }
 
 /// Arguments.
 const ARGUMENTS: [Case; 9] = [
     Case {
-        text: "f(a < b, c > d)",
+        text: b"f(a < b, c > d)",
         shape: "f((a < b), (c > d))",
     },
     Case {
-        text: "f(a = b, c ? d : e)",
+        text: b"f(a = b, c ? d : e)",
         shape: "f((a = b), (c ? d : e))",
     },
     Case {
-        text: "f(g(h()))",
+        text: b"f(g(h()))",
         shape: "f(g(h()))",
     },
     Case {
-        text: "f((a), (b) c)",
+        text: b"f((a), (b) c)",
         shape: "f(paren(a), cast(b, c))",
     },
     Case {
-        text: "f(a,)",
+        text: b"f(a,)",
         shape: "none",
     },
     Case {
-        text: "f(,a)",
+        text: b"f(,a)",
         shape: "none",
     },
     Case {
-        text: "f(a b)",
+        text: b"f(a b)",
         shape: "none",
     },
     Case {
-        text: "f(",
+        text: b"f(",
         shape: "none",
     },
     Case {
-        text: "f)",
+        text: b"f)",
         shape: "none",
     },
 ];
 
 #[test]
 fn arguments(rt: HostRuntime) -> Result<(), Fail> {
-    let alloc = rt.alloc();
-    for case in ARGUMENTS {
-        assert_eq!(rt;
-            shape_of(alloc, case.text)?.as_str(),
-            case.shape,
-            "{}",
-            case.text
-        );
-    }
+    let wrong = first_wrong(rt.alloc(), &ARGUMENTS)?;
+    assert_eq!(rt; wrong.as_str(), "");
     Ok(())
 }
 
 /// What is no member.
 const NO_MEMBERS: [Case; 10] = [
     Case {
-        text: "a.",
+        text: b"a.",
         shape: "none",
     },
     Case {
-        text: "a.this",
+        text: b"a.this",
         shape: "none",
     },
     Case {
-        text: "a.1",
+        text: b"a.1",
         shape: "no tokens",
     },
     Case {
-        text: "super.a",
+        text: b"super.a",
         shape: "none",
     },
     Case {
-        text: "super",
+        text: b"super",
         shape: "none",
     },
     Case {
-        text: "this()",
+        text: b"this()",
         shape: "none",
     },
     Case {
-        text: "a[b",
+        text: b"a[b",
         shape: "none",
     },
     Case {
-        text: "a[]",
+        text: b"a[]",
         shape: "none",
     },
     Case {
-        text: "a.b(c)(d)",
+        text: b"a.b(c)(d)",
         shape: "none",
     },
     Case {
-        text: "f()()",
+        text: b"f()()",
         shape: "none",
     },
 ];
 
 #[test]
 fn no_members(rt: HostRuntime) -> Result<(), Fail> {
-    let alloc = rt.alloc();
-    for case in NO_MEMBERS {
-        assert_eq!(rt;
-            shape_of(alloc, case.text)?.as_str(),
-            case.shape,
-            "{}",
-            case.text
-        );
-    }
+    let wrong = first_wrong(rt.alloc(), &NO_MEMBERS)?;
+    assert_eq!(rt; wrong.as_str(), "");
     Ok(())
 }

@@ -11,7 +11,7 @@ use std::test::Fail;
 /// A text and the shape of its tree, or `none`.
 #[derive(Clone, Copy)]
 pub struct Case {
-    pub text: &'static str,
+    pub text: &'static [u8],
     pub shape: &'static str,
 }
 
@@ -27,14 +27,24 @@ fn parsed(alloc: Global, tokens: &Tokens) -> Result<String, Fail> {
 }
 
 /// The shape of the tree that the text spells, or `none`.
-pub fn shape_of(alloc: Global, text: &str) -> Result<String, Fail> {
+pub fn shape_of(alloc: Global, text: &[u8]) -> Result<String, Fail> {
     let path = Text::from_str(alloc, "A.java")?;
-    let bytes = text.as_bytes();
-    if bytes.len() >= 10_000 {
+    if text.len() >= 10_000 {
         return Ok(String::from_str(alloc, "too long")?);
     }
-    match lex(alloc, &path, bytes) {
+    match lex(alloc, &path, text) {
         Ok(tokens) => parsed(alloc, &tokens),
         Err(_) => Ok(String::from_str(alloc, "no tokens")?),
     }
+}
+
+/// The number of the first case with another shape and the shape that it has, or nothing.
+pub fn first_wrong(alloc: Global, cases: &[Case]) -> Result<String, Fail> {
+    for (number, case) in cases.iter().enumerate() {
+        let found = shape_of(alloc, case.text)?;
+        if found.as_str() != case.shape {
+            return Ok(format!(in alloc; "{number}: {}", found.as_str())?);
+        }
+    }
+    Ok(String::new(alloc))
 }
