@@ -63,7 +63,7 @@ headline words files new status text answered done =
       one_kotlin = λ other is. spells_one other (class_of c.class) (KText (class_of c.class)) is spelled;
       no_keyword = taken_plain c.class c.project.taken;
       typed = types_are_kept c.class (taken_typed c.class c.project.taken);
-      steps = same_steps c.class;
+      steps = same_steps (c.class ∷ []);
     }
 
 -- where the disk tells its files

@@ -28,4 +28,4 @@ pub record Headline (words : List (List ℕ)) (files : Files) (new : Option File
   pub one_kotlin : (other : KClass) → KSpells other bytes → other ≡ kotlin
   pub no_keyword : HasNoKeyword kotlin
   pub typed : KTyped kotlin
-  pub steps : SameSteps java kotlin
+  pub steps : SameSteps (java ∷ []) (kotlin ∷ [])
