@@ -125,9 +125,10 @@ pub no_settings : (held : Option Files) (src : List ℕ) (paths entries : List (
     → IfSome held (λ files. HasEntries src files entries × (settings_excess src files ≡ None))
 no_settings None src paths entries listed has none = tt
 no_settings (Some files) src paths entries listed has none =
-    let absent : has_settings src files ≡ false = ap (list_any (bytes_eq SETTINGS_FILE.now)) (sym listed) ∙ has in
-    (subst (λ b. SetsWhere b (bytes_at src files SETTINGS_FILE.now) entries) (sym absent) none,
-    ap (λ b. cond (b && nat_lt MAX_SETTINGS_BYTES (length (bytes_at src files SETTINGS_FILE.now))) (of_limit SETTINGS_FILE.now MAX_SETTINGS_BYTES) None) absent)
+    let absent : has_settings src files ≡ false = ap (list_any (bytes_eq SETTINGS_FILE.now)) (sym listed) ∙ has in (
+      subst (λ b. SetsWhere b (bytes_at src files SETTINGS_FILE.now) entries) (sym absent) none,
+      ap (λ b. cond (b && nat_lt MAX_SETTINGS_BYTES (length (bytes_at src files SETTINGS_FILE.now))) (of_limit SETTINGS_FILE.now MAX_SETTINGS_BYTES) None) absent,
+    )
 
 pub java_listed : (held now : Option Files) (src : List ℕ) (paths java : List (List ℕ)) → now ≡ held → IfSome held (λ files. paths ≡ listing src files) → java ≡ filter is_java paths → IfSome now (λ files. AreListed src files java)
 java_listed None now src paths java same listed is = subst (λ held. IfSome held (λ files. AreListed src files java)) (sym same) tt

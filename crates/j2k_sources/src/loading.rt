@@ -116,7 +116,11 @@ fn read_settings<D: Disk>(
     }
     let path = Text::from_str(alloc, SETTINGS_FILE)?;
     match read(alloc, src, &path, MAX_SETTINGS_BYTES, disk)? {
-        Bytes::Over => Ok(SettingsRead::TooLarge(excess_of(alloc, SETTINGS_FILE, MAX_SETTINGS_BYTES)?)),
+        Bytes::Over => Ok(SettingsRead::TooLarge(excess_of(
+            alloc,
+            SETTINGS_FILE,
+            MAX_SETTINGS_BYTES,
+        )?)),
         Bytes::Whole(bytes) => match settings(alloc, bytes.as_slice()) {
             Ok(entries) => Ok(SettingsRead::Entries(entries)),
             Err(Stop::Fault(fault)) => Ok(SettingsRead::Refused(fault)),
