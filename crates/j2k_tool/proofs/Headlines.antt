@@ -1,8 +1,8 @@
 -- A conversion that was answered is the headline.
-use Rattle.std.proofs.Common.{◌≡◌, inl, inr, ℕ, List, [], ◌∷◌, ◌++◌, map, Option, Some, None, IfSome, refl, sym, ◌∙◌, ap}
+use Rattle.std.proofs.Common.{◌≡◌, inl, inr, ℕ, List, [], ◌∷◌, map, Option, Some, None, IfSome, refl, ◌∙◌, ap}
 use Rattle.std.proofs.lemmas.List.{map-append}
 use Rattle.j2k_base.specs.declared.series.SourceFile.{SourceFile}
-use Rattle.j2k_io.specs.Disks.{Files, in_folder, listing, with_files}
+use Rattle.j2k_io.specs.Disks.{Files, listing, with_files}
 use Rattle.j2k_sources.specs.declared.loading.Loaded.{Loaded}
 use Rattle.j2k_sources.specs.declared.loading.Loaded.TheVariants as loaded
 use Rattle.j2k_sources.specs.Sources.{IsLoaded}
@@ -18,7 +18,7 @@ use Rattle.j2k_tool.specs.Asks.{Answer, converted, ConvertsLoaded, AsksOver, Ask
 use Rattle.j2k_tool.specs.Headline.{IsWritten, AreWritten, Headline}
 use Rattle.j2k_tool.specs.Projects.{IsFileOf, Spell, IsProject}
 use Rattle.j2k_tool.specs.Words.{words_mean}
-use Rattle.j2k_tool.specs.Written.{placed, kotlin_file, report_file, files_of}
+use Rattle.j2k_tool.specs.Written.{placed, kotlin_file, report_file}
 use Rattle.j2k_tool.proofs.Once.{project_once}
 use Rattle.j2k_tool.proofs.Typing.{taken_named, taken_typed, taken_plain}
 

@@ -1,5 +1,5 @@
 -- What is asked for is one answer.
-use Rattle.std.proofs.Common.{◌≡◌, ◌≢◌, inl, inr, ℕ, List, [], ◌∷◌, ◌++◌, Option, Some, None, IfSome, refl, sym, ◌∙◌, ap, subst}
+use Rattle.std.proofs.Common.{◌≡◌, inl, inr, ℕ, List, [], ◌∷◌, Option, Some, None, IfSome, refl, sym, ◌∙◌, ap, subst}
 use Rattle.j2k_base.specs.declared.series.SourceFile.{SourceFile}
 use Rattle.j2k_io.specs.Disks.{Files, listing}
 use Rattle.j2k_settings.specs.declared.reading.TheConstants.{SETTINGS_FILE}
@@ -8,13 +8,13 @@ use Rattle.j2k_sources.specs.declared.limits.Excess.{Excess}
 use Rattle.j2k_sources.specs.declared.loading.Sources.{Sources}
 use Rattle.j2k_sources.specs.declared.loading.Loaded.{Loaded}
 use Rattle.j2k_sources.specs.declared.loading.Loaded.TheVariants as loaded
-use Rattle.j2k_sources.specs.Sources.{IsLoaded, HasSources, Exceeds}
+use Rattle.j2k_sources.specs.Sources.{IsLoaded, Exceeds}
 use Rattle.meanings.specs.declared.java.JClass.{JClass}
 use Rattle.j2k_tool.specs.declared.status.Status.{Status}
 use Rattle.j2k_tool.specs.declared.status.Status.TheVariants.{Done, ReadFault, WriteFault, NoMemory, TooLarge, OutFault}
 use Rattle.j2k_tool.specs.Asks.{Answer, converted, refused, too_large, ConvertsSources, ConvertsLoaded, Converts, AsksOver, AsksOf, Asks, Answered, IsUnless}
 use Rattle.j2k_tool.specs.Faults.{not_built}
-use Rattle.j2k_tool.specs.Projects.{paths_of, IsFileOf, Spell, FirstOpen, IsFirstOpen, Takes, IsProject, least}
+use Rattle.j2k_tool.specs.Projects.{paths_of, Spell, FirstOpen, IsFirstOpen, Takes, IsProject, least}
 use Rattle.j2k_tool.specs.Words.{words_mean}
 use Rattle.j2k_tool.proofs.Projects.{file_once}
 

@@ -16,18 +16,17 @@ use Rattle.j2k_sources.specs.declared.loading.Loaded.{Loaded}
 use Rattle.j2k_sources.specs.declared.loading.Loaded.TheVariants as loaded
 use Rattle.j2k_sources.specs.Sources.{IsLoaded, Exceeds, Differ}
 use Rattle.meanings.specs.declared.java.JClass.{JClass}
-use Rattle.j2k_tool.specs.Asks.{Answer, usage, not_empty, refused, converted, too_large, too_large_text, done_text, ConvertsSources, ConvertsLoaded, Converts, PathsDiffer, IsAnswer, AsksOver, AsksOf, Asks, Answered, Stopped}
+use Rattle.j2k_tool.specs.Asks.{Answer, usage, not_empty, refused, converted, too_large, too_large_text, done_text, ConvertsSources, ConvertsLoaded, PathsDiffer, IsAnswer, AsksOver, AsksOf, Asks, Answered, Stopped}
 use Rattle.j2k_tool.specs.Faults.{fault_line, not_built}
 use Rattle.j2k_tool.specs.Messages.{message_text}
-use Rattle.j2k_tool.specs.Projects.{paths_of, IsFileOf, Spell, IsFirstOpen, Takes}
+use Rattle.j2k_tool.specs.Projects.{paths_of, Spell, IsFirstOpen, Takes}
 use Rattle.j2k_tool.specs.Report.{Choices}
 use Rattle.j2k_tool.specs.Words.{words_mean}
 use Rattle.j2k_tool.specs.Written.{files_of}
 use Rattle.j2k_tool.specs.declared.status.Status.{Status}
 use Rattle.j2k_tool.specs.declared.status.Status.TheVariants.{Done, Refused, Usage, NotEmpty, TooLarge, WriteFault, NoMemory}
 use Rattle.j2k_tool.specs.declared.answers.Answer as code
-use Rattle.j2k_tool.specs.declared.texts.TheConstants.{USAGE, NOT_EMPTY, LINE_END, KOTLIN_END}
-use Rattle.j2k_tool.proofs.Projects.{same_front}
+use Rattle.j2k_tool.specs.declared.texts.TheConstants.{USAGE, NOT_EMPTY, LINE_END}
 use Rattle.j2k_sources.specs.declared.loading.TheConstants.{JAVA_END}
 
 pub usage_answered : (held new : Option Files) (words : List (List ℕ)) (text : List ℕ) → words_mean words ≡ None → text ≡ USAGE.now → new ≡ held
@@ -96,35 +95,6 @@ pub loaded_differ : (held mid : Option Files) (src dst : List ℕ) (there : List
 loaded_differ None mid src dst there what same listed h is = subst (λ m. IfSome m (λ files. (listing dst files ≡ []) × PathsDiffer what)) (sym same) tt
 loaded_differ (Some files) mid src dst there what same listed h is =
     subst (λ m. IfSome m (λ files. (listing dst files ≡ []) × PathsDiffer what)) (sym same) (sym listed ∙ none_of there h, what_differs src files what is)
-
-module _ (src dst : List ℕ) (there : List (List ℕ)) (what : Loaded) where
-  asks_what : (files : Files) → there ≡ listing dst files → length there ≤ 0 → IsLoaded src files what → (answer : Answer) → ConvertsLoaded dst what answer → AsksOf (Some (src, dst)) files answer
-  asks_what files listed h is answer converts = subst (λ (l : List (List ℕ)). AsksOver l src dst files answer) (sym (none_of there h) ∙ listed) (what, is, converts)
-
-  answered_what : (files : Files) (mid new : Option Files) (status : Status) (text : List ℕ) → there ≡ listing dst files → length there ≤ 0 → IsLoaded src files what → mid ≡ Some files
-      → Answered (ConvertsLoaded dst what) status text mid new → Answered (AsksOf (Some (src, dst)) files) status text (Some files) new
-  answered_what files mid new status text listed h is same answered = record {
-    answer = answered.answer;
-    asked = asks_what files listed h is answered.answer answered.asked;
-    status_is = answered.status_is;
-    text_is = answered.text_is;
-    made = answered.made ∙ ap (λ m. with_files m answered.answer.files) same;
-  }
-
-  pub loaded_answered : (held mid new : Option Files) (result : Result code.Answer Halt) → mid ≡ held → IfSome held (λ files. there ≡ listing dst files) → length there ≤ 0 → IfSome held (λ files. IsLoaded src files what)
-      → IfOk result (λ a. Answered (ConvertsLoaded dst what) a.status (message_text a.message) mid new)
-      → IfOk result (λ a. IfSome held (λ files. Answered (AsksOf (Some (src, dst)) files) a.status (message_text a.message) (Some files) new))
-  loaded_answered held mid new (Err e) same listed h is answered = tt
-  loaded_answered None mid new (Ok a) same listed h is answered = tt
-  loaded_answered (Some files) mid new (Ok a) same listed h is answered = answered_what files mid new a.status (message_text a.message) listed h is same answered
-
-  pub loaded_stopped : (held mid new : Option Files) (result : Result code.Answer Halt) → mid ≡ held → IfSome held (λ files. there ≡ listing dst files) → length there ≤ 0 → IfSome held (λ files. IsLoaded src files what)
-      → OnErr result (Stopped (ConvertsLoaded dst what) mid new) → OnErr result (IfSome held (λ files. Stopped (AsksOf (Some (src, dst)) files) (Some files) new))
-  loaded_stopped held mid new (Ok a) same listed h is stopped = tt
-  loaded_stopped None mid new (Err e) same listed h is stopped = tt
-  loaded_stopped (Some files) mid new (Err e) same listed h is (inl kept) = inl (kept ∙ same)
-  loaded_stopped (Some files) mid new (Err e) same listed h is (inr cut) =
-      inr (cut.0, asks_what files listed h is cut.0 cut.1, subst (λ m. IsCut m cut.0.files new) same cut.2)
 
 -- ---- sources
 

@@ -1,5 +1,5 @@
 -- Which class a file spells, and which files of a project spell classes that are taken.
-use Rattle.std.proofs.Common.{◌≡◌, ◌≢◌, ◌<◌, ◌⊎◌, ◌+◌, inl, inr, ℕ, ◌≤◌, Bool, true, false, not, cond, List, [], ◌∷◌, ◌++◌, length, get_or, take, drop, map, Option, Some, None, Result, Ok, Err, IfOk, IfSome, refl, sym, ◌∙◌, ap, subst, arith, length-append, append_assoc}
+use Rattle.std.proofs.Common.{◌≡◌, ◌≢◌, ◌<◌, ◌+◌, inl, inr, ℕ, ◌≤◌, Bool, true, false, not, cond, List, [], ◌∷◌, ◌++◌, length, get_or, take, drop, Option, Some, None, Result, Ok, Err, IfOk, IfSome, refl, sym, ◌∙◌, ap, subst, arith, length-append, append_assoc}
 use Rattle.std.specs.Prelude.{IsTrue, ◌||◌, ◌&&◌}
 use Rattle.std.specs.List.{list_any}
 use Rattle.std.specs.Str.{bytes_eq}
@@ -60,10 +60,6 @@ pub not_apart : (paths : List (List ℕ)) (file : SourceFile) (name : List ℕ) 
 not_apart paths file name class is named text taken near other spells =
     let same : other ≡ class = class_once other class spells.taken taken (same_front other.name class.name JAVA_END.now (sym spells.named ∙ is ∙ ap (λ (n : List ℕ). n ++ JAVA_END.now) (sym named))) (sym spells.text ∙ text) in
     let apart : are_apart paths class.main ≡ true = ap (λ (c : JClass). are_apart paths c.main) (sym same) ∙ spells.apart in cc
-
-pub file_of : (paths : List (List ℕ)) (file : SourceFile) (name : List ℕ) (class : JClass) → file.path ≡ name ++ JAVA_END.now → class.name ≡ name → file.bytes ≡ java_text class → IsTrue (is_taken class) → are_apart paths class.main ≡ true
-    → IsFileOf paths file class
-file_of paths file name class is named text taken apart = record { named = is ∙ ap (λ (n : List ℕ). n ++ JAVA_END.now) (sym named); text = text; taken = taken; apart = apart }
 
 -- a name that is the stem of a path is the class of that path
 pub class_is : {E : Type 0} (result : Result (Option (List ℕ)) E) (path stem end : List ℕ) → IfOk result (λ found. IfSome found (λ name. name ≡ stem)) → path ≡ stem ++ end

@@ -1,5 +1,5 @@
 -- Files that are written one after another.
-use Rattle.std.proofs.Common.{◌≡◌, ◌≢◌, ◌⊎◌, ◌<◌, ◌+◌, inl, inr, ℕ, Bool, true, false, cond, List, [], ◌∷◌, ◌++◌, length, get_or, take, drop, map, Option, Some, None, Result, Ok, Err, IfSome, refl, sym, ◌∙◌, ap, subst, arith, length-append}
+use Rattle.std.proofs.Common.{◌≡◌, ◌≢◌, ◌<◌, ◌+◌, inl, inr, ℕ, cond, List, [], ◌∷◌, ◌++◌, length, get_or, take, drop, map, Option, Some, None, Result, Ok, Err, IfSome, refl, sym, ◌∙◌, ap, subst, arith, length-append}
 use Rattle.std.specs.Prelude.{IsFalse, is_some, OnErr}
 use Rattle.std.specs.FinMap as finite
 use Rattle.std.specs.FinMap.{get-insert}
@@ -104,10 +104,6 @@ module _ (held : Option Files) (dst : List ℕ) (files : List MadeFile) (i : ℕ
 
   whole_is : map (placed dst) files ≡ map (placed dst) (take i files) ++ placed dst file ∷ map (placed dst) (drop (i + 1) files)
   whole_is = ap (map (placed dst)) (sym (take-append-drop i files)) ∙ map-append (placed dst) (take i files) (drop i files) ∙ ap (λ (m : Made). map (placed dst) (take i files) ++ m) rest_is
-
-  pub here_free : (now : Option Files) → IfSome now (λ fs. AreFree fs (map (placed dst) (drop i files))) → IfSome now (λ fs. IsFalse (finite.contains_key fs (in_folder dst file.path)))
-  here_free None is_free = tt
-  here_free (Some fs) is_free = (subst (AreFree fs) rest_is is_free).0
 
   pub more_free : (now after : Option Files) → after ≡ with_file now (in_folder dst file.path) file.text → IfSome now (λ fs. AreFree fs (map (placed dst) (drop i files))) → IfSome after (λ fs. AreFree fs (map (placed dst) (drop (i + 1) files)))
   more_free None after written is_free = subst (λ a. IfSome a (λ fs. AreFree fs (map (placed dst) (drop (i + 1) files)))) (sym written) tt

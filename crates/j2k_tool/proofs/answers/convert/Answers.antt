@@ -1,5 +1,5 @@
 use Rattle.std.proofs.Common.{◌<◌, ◌≤◌, length, ◌∙◌, arith}
-use Rattle.j2k_tool.proofs.Outcomes.{not_empty_answered, loaded_differ, loaded_answered, loaded_stopped}
+use Rattle.j2k_tool.proofs.Outcomes.{not_empty_answered, loaded_differ}
 use Rattle.j2k_tool.proofs.answers.convert.Goals as goal
 
 pub returns-then-len-gt0-clause-answered : goal.returns-then-len-gt0-clause-answered

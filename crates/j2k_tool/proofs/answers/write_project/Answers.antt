@@ -1,4 +1,4 @@
-use Rattle.std.proofs.Common.{ℕ, List, length, ◌++◌, ◌∷◌, [], map, sym, ◌∙◌, ap}
+use Rattle.std.proofs.Common.{List, length, ◌++◌, ◌∷◌, [], map, ◌∙◌, ap}
 use Rattle.j2k_base.specs.declared.choices.Choice.{Choice}
 use Rattle.j2k_tool.specs.declared.texts.TheConstants.{REPORT_FILE}
 use Rattle.j2k_tool.specs.declared.writing.MadeFile.{MadeFile}

@@ -1,4 +1,4 @@
-use Rattle.std.proofs.Common.{◌<◌, length, ◌∙◌, arith}
+use Rattle.std.proofs.Common.{◌<◌, length, arith}
 use Rattle.j2k_tool.proofs.Projects.{more_paths}
 use Rattle.j2k_tool.proofs.project.paths_of.Goals as goal
 

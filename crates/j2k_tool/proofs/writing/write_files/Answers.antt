@@ -1,7 +1,7 @@
-use Rattle.std.proofs.Common.{◌<◌, ◌≤◌, length, map, arith}
+use Rattle.std.proofs.Common.{◌<◌, length, map, arith}
 use Rattle.j2k_io.specs.Disks.{IsCut}
 use Rattle.j2k_tool.specs.Written.{placed}
-use Rattle.j2k_tool.proofs.Writes.{here_free, more_free, more_written, here_cut, on_err}
+use Rattle.j2k_tool.proofs.Writes.{more_free, more_written, here_cut, on_err}
 use Rattle.j2k_tool.proofs.writing.write_files.Goals as goal
 
 pub returns-in_err-write-clause-cut : goal.returns-in_err-write-clause-cut
