@@ -1,7 +1,6 @@
 pub mod Again
 pub mod Files
 pub mod Headlines
-pub mod Lists
 pub mod Numbers
 pub mod Once
 pub mod Outcomes
@@ -12,3 +11,4 @@ pub mod Sound
 pub mod Statements
 pub mod Strips
 pub mod Typing
+pub mod Writes

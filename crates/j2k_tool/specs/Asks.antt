@@ -1,17 +1,25 @@
 -- What the words of a command line and the files of a disk ask for, and when it was done.
-use Rattle.std.specs.Prelude.{◌≡◌, ◌⊎◌, ℕ, ◌++◌, List, [], ◌∷◌, Option, Some, None}
-use Rattle.j2k_io.specs.Disks.{Files, in_folder, listing, with_files, IsCut}
+use Rattle.std.specs.Prelude.{◌≡◌, ◌⊎◌, ℕ, ◌++◌, List, [], ◌∷◌, length, Option, Some, None}
+use Rattle.std.specs.Fmt.{decimal}
+use Rattle.std.specs.List.{flat_map}
+use Rattle.j2k_base.specs.declared.places.Fault.{Fault}
+use Rattle.j2k_io.specs.Disks.{Files, listing, with_files, IsCut}
 use Rattle.j2k_io.specs.Sinks.{appended, IsPartOf}
+use Rattle.j2k_sources.specs.declared.limits.Excess.{Excess}
+use Rattle.j2k_sources.specs.declared.loading.Sources.{Sources}
+use Rattle.j2k_sources.specs.declared.loading.Loaded.{Loaded}
+use Rattle.j2k_sources.specs.declared.loading.Loaded.TheVariants as loaded
+use Rattle.j2k_sources.specs.Sources.{IsLoaded, Differ}
 use Rattle.meanings.specs.declared.java.JClass.{JClass}
-use Rattle.meanings.specs.Convert.{class_of}
-use Rattle.meanings.specs.KText.{KText}
-use Rattle.j2k_tool.specs.declared.texts.TheConstants.{DONE, USAGE, READ_FAULT, WRITE_FAULT, NO_MEMORY, NOT_EMPTY, LINE_END, KOTLIN_END, REPORT_FILE}
+use Rattle.j2k_tool.specs.declared.faults.TheConstants.{BLANK}
+use Rattle.j2k_tool.specs.declared.texts.TheConstants.{CONVERTED_FILES, CONVERTED_CLASSES, CONVERTED_CHOICES, USAGE, READ_FAULT, WRITE_FAULT, NO_MEMORY, NOT_EMPTY, TOO_LARGE, LINE_END}
 use Rattle.j2k_tool.specs.declared.status.Status.{Status}
 use Rattle.j2k_tool.specs.declared.status.Status.TheVariants.{Done, Refused, Usage, ReadFault, WriteFault, NoMemory, NotEmpty, TooLarge, OutFault}
-use Rattle.j2k_tool.specs.Faults.{fault_line}
-use Rattle.j2k_tool.specs.Projects.{IsProject, IsNoProject, first_fault}
-use Rattle.j2k_tool.specs.Report.{Choices, ReportText}
+use Rattle.j2k_tool.specs.Faults.{fault_line, not_built}
+use Rattle.j2k_tool.specs.Projects.{paths_of, Takes, IsFirstOpen}
+use Rattle.j2k_tool.specs.Report.{Choices}
 use Rattle.j2k_tool.specs.Words.{words_mean}
+use Rattle.j2k_tool.specs.Written.{files_of}
 
 -- a status, the text that is printed, and the files that are made, each a path and its bytes
 pub record Answer : Type 0 where
@@ -25,22 +33,46 @@ usage = record { status = Usage; text = USAGE.now; files = [] }
 abbrev pub not_empty : List ℕ → Answer
 not_empty dst = record { status = NotEmpty; text = NOT_EMPTY.now ++ dst ++ LINE_END.now; files = [] }
 
-abbrev pub refused : List ℕ → Files → Answer
-refused src files = record { status = Refused; text = fault_line (first_fault src files); files = [] }
+abbrev pub refused : Fault → Answer
+refused fault = record { status = Refused; text = fault_line fault; files = [] }
 
--- the Kotlin file and the report
-abbrev pub files_of : List ℕ → JClass → List (List ℕ × List ℕ)
-files_of dst class =
-    (in_folder dst (class.name ++ KOTLIN_END.now), KText (class_of class)) ∷ (in_folder dst REPORT_FILE.now, ReportText 1 (Choices class)) ∷ []
+-- `j2k: too large: WHAT LIMIT`
+abbrev pub too_large_text : Excess → List ℕ
+too_large_text excess = TOO_LARGE.now ++ excess.what ++ BLANK.now ++ decimal excess.limit ++ LINE_END.now
 
-abbrev pub converted : List ℕ → JClass → Answer
-converted dst class = record { status = Done; text = DONE.now; files = files_of dst class }
+abbrev pub too_large : Excess → Answer
+too_large excess = record { status = TooLarge; text = too_large_text excess; files = [] }
+
+-- `converted: files N, classes C, choices M`
+abbrev pub done_text : ℕ → ℕ → ℕ → List ℕ
+done_text files classes choices =
+    CONVERTED_FILES.now ++ decimal files ++ CONVERTED_CLASSES.now ++ decimal classes ++ CONVERTED_CHOICES.now ++ decimal choices ++ LINE_END.now
+
+-- a file has one class
+abbrev pub converted : List ℕ → List JClass → Answer
+converted dst classes = record { status = Done; text = done_text (length classes) (length classes) (length (flat_map Choices classes)); files = files_of dst classes }
+
+-- sources ask for this
+abbrev pub ConvertsSources : List ℕ → Sources → Answer → Type 0
+ConvertsSources dst sources answer =
+    ((classes : List JClass) × Takes sources classes × (answer ≡ converted dst classes))
+    ⊎ ((path : List ℕ) × IsFirstOpen sources path × (answer ≡ refused (not_built path)))
+
+-- so does what was loaded of a folder
+abbrev pub ConvertsLoaded : List ℕ → Loaded → Answer → Type 0
+ConvertsLoaded dst (loaded.Whole sources) answer = ConvertsSources dst sources answer
+ConvertsLoaded dst (loaded.TooLarge excess) answer = answer ≡ too_large excess
+ConvertsLoaded dst (loaded.Refused fault) answer = answer ≡ refused fault
+
+-- the paths of sources differ
+abbrev pub PathsDiffer : Loaded → Type 0
+PathsDiffer (loaded.Whole sources) = Differ (paths_of sources.files)
+PathsDiffer (loaded.TooLarge excess) = Unit {0}
+PathsDiffer (loaded.Refused fault) = Unit {0}
 
 -- what stands in the folder of a project asks for this
 abbrev pub Converts : List ℕ → List ℕ → Files → Answer → Type 0
-Converts src dst files answer =
-    ((class : JClass) × IsProject src files class × (answer ≡ converted dst class))
-    ⊎ (IsNoProject src files × (answer ≡ refused src files))
+Converts src dst files answer = (what : Loaded) × IsLoaded src files what × ConvertsLoaded dst what answer
 
 -- `convert` asks for this, with what is listed in the target folder
 abbrev pub AsksOver : List (List ℕ) → List ℕ → List ℕ → Files → Answer → Type 0
@@ -64,7 +96,7 @@ IsAnswer NotEmpty = Unit {0}
 IsAnswer ReadFault = ⊥
 IsAnswer WriteFault = ⊥
 IsAnswer NoMemory = ⊥
-IsAnswer TooLarge = ⊥
+IsAnswer TooLarge = Unit {0}
 IsAnswer OutFault = ⊥
 
 -- It was answered: what was asked for has this status and this text, and its files were made.

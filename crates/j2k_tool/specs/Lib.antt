@@ -1,5 +1,4 @@
 pub mod Asks
-pub mod Causes
 pub mod Faults
 pub mod Headline
 pub mod Messages
@@ -9,3 +8,4 @@ pub mod Refusals
 pub mod Report
 pub mod Taken
 pub mod Words
+pub mod Written

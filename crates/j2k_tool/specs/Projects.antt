@@ -1,47 +1,92 @@
 -- The project that stands in a folder.
-use Rattle.std.specs.Prelude.{◌≡◌, ◌≤◌, ℕ, ◌++◌, List, [], ◌∷◌, length, Bool, IsTrue, Option, Some, None, if◌then◌else◌, unwrap_or, filter, nat_eq}
-use Rattle.std.specs.List.{ends_with, list_any}
+use Rattle.std.specs.Prelude.{◌≡◌, ◌≢◌, ◌⊎◌, ℕ, ◌++◌, List, [], ◌∷◌, Bool, true, false, not, ◌&&◌, IsTrue, map, if◌then◌else◌}
+use Rattle.std.specs.List.{list_any}
 use Rattle.std.specs.Str.{bytes_eq}
-use Rattle.std.specs.FinMap as finite
-use Rattle.j2k_base.specs.declared.places.Fault.{Fault}
-use Rattle.j2k_io.specs.Disks.{Files, in_folder, listing}
+use Rattle.std.specs.Ordering.{nat_cmp, is_lt}
+use Rattle.std.specs.Cmp.Lexicographic.{slice_cmp}
+use Rattle.j2k_base.specs.declared.series.SourceFile.{SourceFile}
+use Rattle.j2k_io.specs.Disks.{Files}
+use Rattle.j2k_settings.specs.declared.reading.TheConstants.{SETTINGS_FILE}
+use Rattle.j2k_sources.specs.declared.loading.Sources.{Sources}
+use Rattle.j2k_sources.specs.declared.loading.TheConstants.{JAVA_END}
+use Rattle.j2k_sources.specs.Sources.{HasSources}
+use Rattle.meanings.specs.declared.java.JStmt.{JStmt}
+use Rattle.meanings.specs.declared.java.JStmt.TheVariants.{Local, Print}
 use Rattle.meanings.specs.declared.java.JClass.{JClass}
 use Rattle.meanings.specs.JSpells.{java_text}
 use Rattle.j2k_tool.specs.declared.project.Project.{Project}
 use Rattle.j2k_tool.specs.declared.project.Project.TheVariants.{Taken, Refused}
-use Rattle.j2k_tool.specs.declared.project.TheConstants.{MAX_FILE_BYTES}
-use Rattle.j2k_tool.specs.declared.texts.TheConstants.{DOT, JAVA_END, SETTINGS}
+use Rattle.j2k_tool.specs.declared.project.Reading.{Reading}
+use Rattle.j2k_tool.specs.declared.project.Reading.TheVariants.{All, Open}
 use Rattle.j2k_tool.specs.Faults.{not_built}
 use Rattle.j2k_tool.specs.Taken.{is_taken}
 
--- the only one of a list
-abbrev pub only : {T : Type 0} → List T → Option T
-only [] = None
-only (x ∷ []) = Some x
-only (x ∷ y ∷ more) = None
+abbrev pub paths_of : List SourceFile → List (List ℕ)
+paths_of files = map (λ file. file.path) files
 
-abbrev pub is_java : List ℕ → Bool
-is_java path = ends_with nat_eq path JAVA_END.now
+-- a local is named as a class of the project, whose file has one of these paths
+abbrev pub names_class : List (List ℕ) → JStmt → Bool
+names_class paths (Local name value) = list_any (bytes_eq (name ++ JAVA_END.now)) paths
+names_class paths (Print value) = false
 
--- the one Java file of a project without settings
-abbrev pub one_java : List (List ℕ) → Option (List ℕ)
-one_java paths = if list_any (bytes_eq SETTINGS.now) paths then None else only (filter is_java paths)
+-- no local is
+abbrev pub are_apart : List (List ℕ) → List JStmt → Bool
+are_apart paths [] = true
+are_apart paths (statement ∷ more) = not (names_class paths statement) && are_apart paths more
 
--- The files under src are one Java file, named as its class, which spells this class; it is taken and not too long.
-pub record IsProject (src : List ℕ) (files : Files) (class : JClass) : Type 0 where
-  pub alone : one_java (listing src files) ≡ Some (class.name ++ JAVA_END.now)
-  pub file : finite.get files (in_folder src (class.name ++ JAVA_END.now)) ≡ Some (java_text class)
-  pub small : length (java_text class) ≤ MAX_FILE_BYTES
+-- Among files of these paths a file, named as its class, spells this class; it is taken, and no local is named as a class of the project.
+pub record IsFileOf (paths : List (List ℕ)) (file : SourceFile) (class : JClass) : Type 0 where
+  pub named : file.path ≡ class.name ++ JAVA_END.now
+  pub text : file.bytes ≡ java_text class
   pub taken : IsTrue (is_taken class)
+  pub apart : IsTrue (are_apart paths class.main)
 
-abbrev pub IsNoProject : List ℕ → Files → Type 0
-IsNoProject src files = (class : JClass) → IsProject src files class → ⊥
+-- a file that spells no such class is an open form
+abbrev pub IsOpen : List (List ℕ) → SourceFile → Type 0
+IsOpen paths file = (class : JClass) → IsFileOf paths file class → ⊥
 
--- the first fault of any other project: the start of its one Java file, or of the folder where it has none
-abbrev pub first_fault : List ℕ → Files → Fault
-first_fault src files = not_built (unwrap_or (one_java (listing src files)) DOT.now)
+-- the files spell these classes, one each
+abbrev pub Spell : List (List ℕ) → List SourceFile → List JClass → Type 0
+Spell paths [] [] = Unit {0}
+Spell paths (file ∷ files) (class ∷ classes) = IsFileOf paths file class × Spell paths files classes
+Spell paths [] (class ∷ classes) = ⊥
+Spell paths (file ∷ files) [] = ⊥
 
--- what was found in a folder
-abbrev pub IsFound : List ℕ → Files → Project → Type 0
-IsFound src files (Taken class) = IsProject src files class
-IsFound src files (Refused fault) = (fault ≡ first_fault src files) × IsNoProject src files
+-- this is the path of the first open form among the files, which stand in the order of their paths
+abbrev pub FirstOpen : List (List ℕ) → List SourceFile → List ℕ → Type 0
+FirstOpen paths [] path = ⊥
+FirstOpen paths (file ∷ files) path = (IsOpen paths file × (path ≡ file.path)) ⊎ (((class : JClass) × IsFileOf paths file class) × FirstOpen paths files path)
+
+-- in the order of the bytes
+abbrev pub precedes : List ℕ → List ℕ → Bool
+precedes a b = is_lt (slice_cmp nat_cmp a b)
+
+abbrev pub least : List ℕ → List ℕ → List ℕ
+least a b = if precedes a b then a else b
+
+-- The path of the first open form of a project: of the least of its open files, and of the settings where they name an entry, since entries aren't taken yet.
+abbrev pub IsFirstOpen : Sources → List ℕ → Type 0
+IsFirstOpen sources path =
+    ((sources.entries ≡ []) × FirstOpen (paths_of sources.files) sources.files path)
+    ⊎ ((sources.entries ≢ []) × ((classes : List JClass) × Spell (paths_of sources.files) sources.files classes) × (path ≡ SETTINGS_FILE.now))
+    ⊎ ((sources.entries ≢ []) × ((first : List ℕ) × FirstOpen (paths_of sources.files) sources.files first × (path ≡ least SETTINGS_FILE.now first)))
+
+-- sources without entries, whose files spell these classes
+abbrev pub Takes : Sources → List JClass → Type 0
+Takes sources classes = (sources.entries ≡ []) × Spell (paths_of sources.files) sources.files classes
+
+-- The files under a folder, within the limits, spell these classes, and are taken.
+pub record IsProject (src : List ℕ) (files : Files) (classes : List JClass) : Type 0 where
+  pub sources : Sources
+  pub has : HasSources src files sources.entries sources.files
+  pub takes : Takes sources classes
+
+-- what sources are
+abbrev pub IsJudged : Sources → Project → Type 0
+IsJudged sources (Taken classes) = Takes sources classes
+IsJudged sources (Refused fault) = (path : List ℕ) × IsFirstOpen sources path × (fault ≡ not_built path)
+
+-- what the files are
+abbrev pub IsReading : List SourceFile → Reading → Type 0
+IsReading files (All classes) = Spell (paths_of files) files classes
+IsReading files (Open path) = FirstOpen (paths_of files) files path

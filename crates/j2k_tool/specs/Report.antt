@@ -8,7 +8,8 @@ use Rattle.j2k_base.specs.declared.choices.Choice.{Choice}
 use Rattle.meanings.specs.declared.java.JClass.{JClass}
 use Rattle.j2k_tool.specs.declared.report.TheConstants.{REPORT_FILES, REPORT_CHOICES, KIND_COMPANION, KIND_PROPERTY, KIND_RENAME, KIND_WIDEN, KIND_NULLABLE, KIND_WHEN, KIND_CHAIN, KIND_RANGE, KIND_WHILE, KIND_BIND, KIND_COPY, KIND_FOLD, KIND_DROP}
 use Rattle.j2k_tool.specs.declared.faults.TheConstants.{BLANK}
-use Rattle.j2k_tool.specs.declared.texts.TheConstants.{JAVA_END, LINE_END}
+use Rattle.j2k_sources.specs.declared.loading.TheConstants.{JAVA_END}
+use Rattle.j2k_tool.specs.declared.texts.TheConstants.{LINE_END}
 use Rattle.j2k_tool.specs.Faults.{place_text}
 
 abbrev pub kind_text : ChoiceKind → List ℕ

@@ -1,22 +1,30 @@
 // What the words ask for is done, but for printing.
-ghost use Rattle.std.specs.Prelude.{◌≡◌, ◌≢◌, ◌++◌, [], IfOk, OnOk, OnErr, IfSome, IsErrOf, IsOkAnd};
+ghost use Rattle.std.specs.Prelude.{◌≡◌, ◌≢◌, ◌++◌, [], length, map, IfOk, OnOk, OnErr, IfSome, IsErrOf, IsOkAnd};
+ghost use Rattle.std.specs.List.{flat_map};
+ghost use Rattle.std.specs.Fmt.{decimal};
 ghost use Rattle.j2k_io.specs.Disks.{listing, with_files, IsCut};
-ghost use Rattle.j2k_tool.specs.Asks.{Asks, AsksOf, Answered, Stopped, IsAnswer, files_of};
-ghost use Rattle.j2k_tool.specs.Causes.{HasCauses};
+ghost use Rattle.j2k_sources.specs.Causes.{HasCauses};
+ghost use Rattle.j2k_sources.specs.Sources.{Differ};
+ghost use Rattle.j2k_tool.specs.Asks.{Asks, AsksOf, ConvertsLoaded, ConvertsSources, Answered, Stopped, IsAnswer, PathsDiffer, done_text as done_text_by, too_large_text as too_large_text_by};
+ghost use Rattle.j2k_tool.specs.Faults.{fault_line};
 ghost use Rattle.j2k_tool.specs.Messages.{message_text};
+ghost use Rattle.j2k_tool.specs.Projects.{paths_of};
+ghost use Rattle.j2k_tool.specs.Report.{Choices as choices_by};
 ghost use Rattle.j2k_tool.specs.Words.{words_mean};
+ghost use Rattle.j2k_tool.specs.Written.{files_of as files_by};
 
-use crate::conversion::class_of;
-use crate::faults::line_of;
-use crate::halt::{Halt, list, write};
-use crate::printing::text_of;
-use crate::project::{Project, read_project};
-use crate::report::{choices_of, report_of};
+use crate::faults::{BLANK, line_of, push_number};
+use crate::project::{Project, judge};
+use crate::report::choices_of;
 use crate::status::Status;
-use crate::texts::{DONE, KOTLIN_END, LINE_END, NOT_EMPTY, REPORT_FILE, USAGE};
+use crate::texts::{
+    CONVERTED_CHOICES, CONVERTED_CLASSES, CONVERTED_FILES, LINE_END, NOT_EMPTY, TOO_LARGE, USAGE,
+};
 use crate::words::folders;
-use j2k_base::{NoMemory, Text, Words};
+use crate::writing::{files_of, write_files};
+use j2k_base::{Fault, NoMemory, Text, Words};
 use j2k_io::Disk;
+use j2k_sources::{Excess, Halt, Loaded, Sources, list, load};
 use meanings::java::JClass;
 use std::alloc::Global;
 
@@ -82,13 +90,8 @@ fn convert<D: Disk>(alloc: Global, src: &Text, dst: &Text, disk: &mut D) -> Resu
             message: Message::Made(not_empty_text(alloc, dst)?),
         });
     }
-    match read_project(alloc, src, paths.as_slice(), disk)? {
-        Project::Taken(class) => write_project(alloc, dst, &class, disk),
-        Project::Refused(fault) => Ok(Answer {
-            status: Status::Refused,
-            message: Message::Made(line_of(alloc, &fault)?),
-        }),
-    }
+    let loaded = load(alloc, src, paths.as_slice(), disk)?;
+    convert_loaded(alloc, dst, &loaded, disk)
 }
 
 fn not_empty_text(alloc: Global, dst: &Text) -> Result<Text, NoMemory>
@@ -100,38 +103,106 @@ fn not_empty_text(alloc: Global, dst: &Text) -> Result<Text, NoMemory>
     Ok(text)
 }
 
-/// Writes the Kotlin file and the report into an empty folder.
-fn write_project<D: Disk>(
+/// Converts what was loaded into an empty folder.
+fn convert_loaded<D: Disk>(
     alloc: Global,
     dst: &Text,
-    class: &JClass,
+    loaded: &Loaded,
     disk: &mut D,
 ) -> Result<Answer, Halt>
-    requires { IfSome (D.held disk.old) (λ files. listing dst.now files ≡ []) }
-    ensures answer { IfOk result (λ a. (a.status ≡ Status.Done) × (message_text a.message ≡ DONE.now)) }
-    ensures made { OnOk result (D.held disk.new ≡ with_files (D.held disk.old) (files_of dst.now class.now)) }
-    ensures cut { OnErr result (IsCut (D.held disk.old) (files_of dst.now class.now) (D.held disk.new)) }
+    requires { IfSome (D.held disk.old) (λ files. (listing dst.now files ≡ []) × PathsDiffer loaded.now) }
+    ensures answered { IfOk result (λ a. Answered (ConvertsLoaded dst.now loaded.now) a.status (message_text a.message) (D.held disk.old) (D.held disk.new)) }
+    ensures not_usage { IfOk result (λ a. a.status ≢ Status.Usage) }
+    ensures refusal { IfOk result (λ a. IsAnswer a.status × (a.status ≢ Status.Done → D.held disk.new ≡ D.held disk.old)) }
+    ensures stopped { OnErr result (Stopped (ConvertsLoaded dst.now loaded.now) (D.held disk.old) (D.held disk.new)) }
     ensures no_read { IsErrOf result Halt.Read → ⊥ }
     ensures causes { HasCauses (D.reads disk.old) (D.reads disk.new) (D.writes disk.old) (D.writes disk.new) result }
 {
-    let made = class_of(alloc, class)?;
-    let kotlin = text_of(alloc, &made)?;
-    let choices = choices_of(alloc, class)?;
-    let report = report_of(alloc, 1, choices.as_slice())?;
-    let kotlin_path = named(alloc, class.name.as_str(), KOTLIN_END)?;
-    let report_path = Text::from_str(alloc, REPORT_FILE)?;
-    write(alloc, dst, &kotlin_path, &kotlin, disk)?;
-    write(alloc, dst, &report_path, &report, disk)?;
+    match loaded {
+        Loaded::Whole(sources) => convert_sources(alloc, dst, sources, disk),
+        Loaded::TooLarge(excess) => Ok(Answer {
+            status: Status::TooLarge,
+            message: Message::Made(too_large_text(alloc, excess)?),
+        }),
+        Loaded::Refused(fault) => Ok(refusal_of(alloc, fault)?),
+    }
+}
+
+fn too_large_text(alloc: Global, excess: &Excess) -> Result<Text, NoMemory>
+    ensures { IfOk result (λ text. text ≡ too_large_text_by excess.now) }
+{
+    let mut text = Text::from_str(alloc, TOO_LARGE)?;
+    text.push_str(excess.what.as_str())?;
+    text.push_str(BLANK)?;
+    push_number(alloc, &mut text, excess.limit)?;
+    text.push_str(LINE_END)?;
+    Ok(text)
+}
+
+fn refusal_of(alloc: Global, fault: &Fault) -> Result<Answer, NoMemory>
+    ensures { IfOk result (λ a. (a.status ≡ Status.Refused) × (message_text a.message ≡ fault_line fault.now)) }
+{
     Ok(Answer {
-        status: Status::Done,
-        message: Message::Fixed(DONE),
+        status: Status::Refused,
+        message: Message::Made(line_of(alloc, fault)?),
     })
 }
 
-fn named(alloc: Global, name: &str, end: &str) -> Result<Text, NoMemory>
-    ensures { IfOk result (λ text. text ≡ name.now ++ end.now) }
+/// Converts sources into an empty folder.
+fn convert_sources<D: Disk>(
+    alloc: Global,
+    dst: &Text,
+    sources: &Sources,
+    disk: &mut D,
+) -> Result<Answer, Halt>
+    requires { IfSome (D.held disk.old) (λ files. (listing dst.now files ≡ []) × Differ (paths_of sources.now.files)) }
+    ensures answered { IfOk result (λ a. Answered (ConvertsSources dst.now sources.now) a.status (message_text a.message) (D.held disk.old) (D.held disk.new)) }
+    ensures not_usage { IfOk result (λ a. a.status ≢ Status.Usage) }
+    ensures refusal { IfOk result (λ a. IsAnswer a.status × (a.status ≢ Status.Done → D.held disk.new ≡ D.held disk.old)) }
+    ensures stopped { OnErr result (Stopped (ConvertsSources dst.now sources.now) (D.held disk.old) (D.held disk.new)) }
+    ensures no_read { IsErrOf result Halt.Read → ⊥ }
+    ensures causes { HasCauses (D.reads disk.old) (D.reads disk.new) (D.writes disk.old) (D.writes disk.new) result }
 {
-    let mut text = Text::from_str(alloc, name)?;
-    text.push_str(end)?;
+    match judge(alloc, sources)? {
+        Project::Taken(classes) => write_project(alloc, dst, classes.as_slice(), disk),
+        Project::Refused(fault) => Ok(refusal_of(alloc, &fault)?),
+    }
+}
+
+/// Writes the Kotlin files and the report into an empty folder.
+#[tactic(auto, using(crate::proofs::Writes::nothing_cut))]
+fn write_project<D: Disk>(
+    alloc: Global,
+    dst: &Text,
+    classes: &[JClass],
+    disk: &mut D,
+) -> Result<Answer, Halt>
+    requires { IfSome (D.held disk.old) (λ files. (listing dst.now files ≡ []) × Differ (map (λ class. class.name) classes.now)) }
+    ensures answer { IfOk result (λ a. (a.status ≡ Status.Done) × (message_text a.message ≡ done_text_by (length classes.now) (length classes.now) (length (flat_map choices_by classes.now)))) }
+    ensures made { OnOk result (D.held disk.new ≡ with_files (D.held disk.old) (files_by dst.now classes.now)) }
+    ensures cut { OnErr result (IsCut (D.held disk.old) (files_by dst.now classes.now) (D.held disk.new)) }
+    ensures no_read { IsErrOf result Halt.Read → ⊥ }
+    ensures causes { HasCauses (D.reads disk.old) (D.reads disk.new) (D.writes disk.old) (D.writes disk.new) result }
+{
+    let choices = choices_of(alloc, classes)?;
+    let message = done_text(alloc, classes.len(), classes.len(), choices.len())?;
+    let files = files_of(alloc, classes, choices.as_slice())?;
+    write_files(alloc, dst, files.as_slice(), disk)?;
+    Ok(Answer {
+        status: Status::Done,
+        message: Message::Made(message),
+    })
+}
+
+fn done_text(alloc: Global, files: usize, classes: usize, choices: usize) -> Result<Text, NoMemory>
+    ensures { IfOk result (λ text. text ≡ done_text_by files classes choices) }
+{
+    let mut text = Text::from_str(alloc, CONVERTED_FILES)?;
+    push_number(alloc, &mut text, files as u64)?;
+    text.push_str(CONVERTED_CLASSES)?;
+    push_number(alloc, &mut text, classes as u64)?;
+    text.push_str(CONVERTED_CHOICES)?;
+    push_number(alloc, &mut text, choices as u64)?;
+    text.push_str(LINE_END)?;
     Ok(text)
 }

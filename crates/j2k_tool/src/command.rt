@@ -4,17 +4,19 @@ ghost use Rattle.meanings.specs.declared.java.JClass.{JClass};
 ghost use Rattle.j2k_io.specs.Causes.{Rose};
 ghost use Rattle.j2k_io.specs.Disks.{listing};
 ghost use Rattle.j2k_io.specs.Sinks.{IsPartOf};
+ghost use Rattle.j2k_sources.specs.declared.limits.Excess.{Excess};
+ghost use Rattle.j2k_sources.specs.Sources.{Exceeds};
 ghost use Rattle.j2k_tool.specs.Asks.{Answer as Asked, Asks, Told, Untold, Stopped, IsAnswer, IsUnless, IsGiven, MayTell, KeepsFiles};
 ghost use Rattle.j2k_tool.specs.Headline.{Headline};
 ghost use Rattle.j2k_tool.specs.Projects.{IsProject};
 ghost use Rattle.j2k_tool.specs.Words.{words_mean};
 
 use crate::answers::perform;
-use crate::halt::Halt;
 use crate::status::Status;
 use crate::texts::{NO_MEMORY, READ_FAULT, WRITE_FAULT};
 use j2k_base::Words;
 use j2k_io::{Disk, Sink, SinkStop};
+use j2k_sources::Halt;
 use std::alloc::Global;
 
 /// Does what the words ask for: `convert SRC DST` reads the project under SRC, and writes its Kotlin and a report
@@ -31,8 +33,10 @@ pub fn run<D: Disk, S: Sink>(alloc: Global, words: &Words, disk: &mut D, out: &m
     // What they ask for is answered, unless memory ran out or a counted fault came.
     ensures complete { IfSome (D.held disk.old) (λ files. (asked : Asked) → Asks words.now files asked →
         IsUnless asked.status result (Rose (D.reads disk.old) (D.reads disk.new)) (Rose (D.writes disk.old) (D.writes disk.new)) (Rose (S.faults out.old) (S.faults out.new))) }
-    ensures converts { IfSome (D.held disk.old) (λ files. (src dst : List ℕ) (class : JClass) → words_mean words.now ≡ Some (src, dst) → listing dst files ≡ [] → IsProject src files class →
+    ensures converts { IfSome (D.held disk.old) (λ files. (src dst : List ℕ) (classes : List JClass) → words_mean words.now ≡ Some (src, dst) → listing dst files ≡ [] → IsProject src files classes →
         IsUnless Status.Done result (Rose (D.reads disk.old) (D.reads disk.new)) (Rose (D.writes disk.old) (D.writes disk.new)) (Rose (S.faults out.old) (S.faults out.new))) }
+    ensures exceeds { IfSome (D.held disk.old) (λ files. (src dst : List ℕ) (excess : Excess) → words_mean words.now ≡ Some (src, dst) → listing dst files ≡ [] → Exceeds src files excess →
+        IsUnless Status.TooLarge result (Rose (D.reads disk.old) (D.reads disk.new)) (Rose (D.writes disk.old) (D.writes disk.new)) (Rose (S.faults out.old) (S.faults out.new))) }
 
     // Each status has its cause.
     ensures usage { result ≡ Status.Usage → words_mean words.now ≡ None }
@@ -40,7 +44,7 @@ pub fn run<D: Disk, S: Sink>(alloc: Global, words: &Words, disk: &mut D, out: &m
     ensures read_fault { result ≡ Status.ReadFault → Rose (D.reads disk.old) (D.reads disk.new) }
     ensures write_fault { result ≡ Status.WriteFault → Rose (D.writes disk.old) (D.writes disk.new) }
     ensures out_fault { result ≡ Status.OutFault → Rose (S.faults out.old) (S.faults out.new) }
-    ensures too_large { result ≡ Status.TooLarge → ⊥ }
+    ensures too_large { result ≡ Status.TooLarge → IfSome (D.held disk.old) (λ files. (src : List ℕ) × (dst : List ℕ) × (words_mean words.now ≡ Some (src, dst)) × (excess : Excess) × Exceeds src files excess) }
 
     // What it leaves on the disk.
     ensures unchanged { KeepsFiles result → D.held disk.new ≡ D.held disk.old }

@@ -142,7 +142,7 @@ fn text_of(phase: Phase, number: u8) -> &'static str
 }
 
 /// Appends a number in decimal.
-pub fn push_number(alloc: Global, out: &mut Text, number: u32) -> Result<(), NoMemory>
+pub fn push_number(alloc: Global, out: &mut Text, number: u64) -> Result<(), NoMemory>
     ensures { OnOk result (out.new ≡ out.old ++ decimal number) }
 {
     let digits = format!(in alloc; "{number}")?;
@@ -155,16 +155,16 @@ pub fn push_place(alloc: Global, out: &mut Text, place: &Place) -> Result<(), No
 {
     out.push_str(place.path.as_str())?;
     out.push_str(COLON)?;
-    push_number(alloc, out, place.line)?;
+    push_number(alloc, out, u64::from(place.line))?;
     out.push_str(COLON)?;
-    push_number(alloc, out, place.column)
+    push_number(alloc, out, u64::from(place.column))
 }
 
 fn push_code(alloc: Global, out: &mut Text, phase: Phase, number: u8) -> Result<(), NoMemory>
     ensures { OnOk result (out.new ≡ out.old ++ code_text phase number) }
 {
     out.push_str(letters_of(phase))?;
-    push_number(alloc, out, u32::from(number))
+    push_number(alloc, out, u64::from(number))
 }
 
 /// `PATH:LINE:COLUMN: CODE TEXT` and a line end.

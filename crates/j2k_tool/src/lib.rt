@@ -5,7 +5,6 @@ mod answers;
 mod command;
 mod conversion;
 mod faults;
-mod halt;
 mod printing;
 mod project;
 mod reading;
@@ -15,6 +14,7 @@ mod status;
 mod taken;
 mod texts;
 mod words;
+mod writing;
 
 pub use command::run;
 pub use status::Status;

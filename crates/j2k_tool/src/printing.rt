@@ -73,7 +73,7 @@ fn push_operand(alloc: Global, out: &mut Text, operand: &KOperand) -> Result<(),
 {
     match operand {
         KOperand::Local(name) => out.push_str(name.as_str()),
-        KOperand::Number(number) => push_number(alloc, out, *number),
+        KOperand::Number(number) => push_number(alloc, out, u64::from(*number)),
     }
 }
 

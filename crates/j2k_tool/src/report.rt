@@ -1,11 +1,12 @@
 // The choices of a conversion, and the report on them.
-ghost use Rattle.std.specs.Prelude.{◌≡◌, ◌++◌, ◌<◌, ◌^◌, length, IfOk, OnOk};
+ghost use Rattle.std.specs.Prelude.{◌≡◌, ◌++◌, ◌∷◌, [], IfOk, OnOk};
 ghost use Rattle.std.specs.List.{flat_map};
 ghost use Rattle.j2k_tool.specs.Report.{kind_text as kind_text_by, choice_line, ReportText, Choices as choices_by};
 
 use crate::faults::{BLANK, push_number, push_place};
-use crate::texts::{JAVA_END, LINE_END};
+use crate::texts::LINE_END;
 use j2k_base::{Choice, ChoiceKind, Choices, NoMemory, Place, Text};
+use j2k_sources::JAVA_END;
 use meanings::java::JClass;
 use std::alloc::Global;
 
@@ -61,9 +62,20 @@ fn kind_text(kind: ChoiceKind) -> &'static str
     }
 }
 
-/// The choices of a class whose one member is its static `main`: it has a companion.
-pub fn choices_of(alloc: Global, class: &JClass) -> Result<Choices, NoMemory>
-    ensures { IfOk result (λ choices. choices ≡ choices_by class.now) }
+/// The choices of all classes, in their order.
+pub fn choices_of(alloc: Global, classes: &[JClass]) -> Result<Choices, NoMemory>
+    ensures { IfOk result (λ choices. choices ≡ flat_map choices_by classes.now) }
+{
+    let mut choices = Choices::new(alloc);
+    for class in classes {
+        choices.push(companion_of(alloc, class)?)?;
+    }
+    Ok(choices)
+}
+
+/// The choice of a class whose one member is its static `main`: it has a companion.
+fn companion_of(alloc: Global, class: &JClass) -> Result<Choice, NoMemory>
+    ensures { IfOk result (λ choice. choice ∷ [] ≡ choices_by class.now) }
 {
     let mut path = Text::from_str(alloc, class.name.as_str())?;
     path.push_str(JAVA_END)?;
@@ -74,25 +86,22 @@ pub fn choices_of(alloc: Global, class: &JClass) -> Result<Choices, NoMemory>
         column: 14,
     };
     let text = Text::from_str(alloc, class.name.as_str())?;
-    let mut choices = Choices::new(alloc);
-    choices.push(Choice {
+    Ok(Choice {
         kind: ChoiceKind::Companion,
         place,
         text,
-    })?;
-    Ok(choices)
+    })
 }
 
 /// The report on so many files and these choices.
 #[tactic(auto, unfolding(crate::specs::Report::ReportText))]
-pub fn report_of(alloc: Global, files: u32, choices: &[Choice]) -> Result<Text, NoMemory>
-    requires { length choices.now < 2 ^ 32 }
+pub fn report_of(alloc: Global, files: usize, choices: &[Choice]) -> Result<Text, NoMemory>
     ensures { IfOk result (λ text. text ≡ ReportText files choices.now) }
 {
     let mut out = Text::from_str(alloc, REPORT_FILES)?;
-    push_number(alloc, &mut out, files)?;
+    push_number(alloc, &mut out, files as u64)?;
     out.push_str(REPORT_CHOICES)?;
-    push_number(alloc, &mut out, choices.len() as u32)?;
+    push_number(alloc, &mut out, choices.len() as u64)?;
     out.push_str(LINE_END)?;
     push_choices(alloc, &mut out, choices)?;
     Ok(out)

@@ -24,7 +24,7 @@ const USAGE: &str = "usage: j2k convert SRC DST | check DIR | explain SRC | samp
 
 const REFUSED: &str = "Main.java:1:1: N0 not built yet\n";
 
-const REFUSED_FOLDER: &str = ".:1:1: N0 not built yet\n";
+const REFUSED_OTHER: &str = "B.java:1:1: N0 not built yet\n";
 
 const READ: &str = "j2k: read fault\n";
 
@@ -43,18 +43,11 @@ const PROJECTS: [(&str, &str, Status, &str, &str, &str); 7] = [
         JAVA,
         "src/B.java",
         Status::Refused,
-        REFUSED_FOLDER,
+        REFUSED_OTHER,
         NONE,
         NONE,
     ),
-    (
-        JAVA,
-        "src/j2k.toml",
-        Status::Refused,
-        REFUSED_FOLDER,
-        NONE,
-        NONE,
-    ),
+    (JAVA, "src/j2k.toml", Status::Done, LINE, KOTLIN, REPORT),
     (
         JAVA,
         "out/x",
@@ -187,5 +180,150 @@ fn failing_calls(rt: HostRuntime) -> Result<(), Failure> {
         let is_made = made(alloc, disk.files(), kotlin, report)?;
         assert!(rt; is_made, "at {call}, {put}, {keep}");
     }
+    Ok(())
+}
+
+// A map of one file.
+fn file_of(alloc: Global, path: &str, text: &str) -> Result<FileMap, NoMemory> {
+    let mut files = FileMap::new(alloc);
+    add(alloc, &mut files, path, text.as_bytes())?;
+    Ok(files)
+}
+
+fn add(alloc: Global, files: &mut FileMap, path: &str, bytes: &[u8]) -> Result<(), NoMemory> {
+    files.insert_copy(&Text::from_str(alloc, path)?, bytes)
+}
+
+// Whether the conversion of these files ends and prints so.
+fn answers(alloc: Global, files: FileMap, status: Status, text: &str) -> Result<bool, NoMemory> {
+    let words = words_of(alloc, "convert", "src", "out")?;
+    let mut disk = SteadyDisk::new(files);
+    Ok(ends(alloc, &words, &mut disk, status, text))
+}
+
+#[test]
+fn no_files(rt: HostRuntime) -> Result<(), Failure> {
+    let alloc = rt.alloc();
+    let words = words_of(alloc, "convert", "src", "out")?;
+    let mut disk = SteadyDisk::new(FileMap::new(alloc));
+    let line = "converted: files 0, classes 0, choices 0\n";
+    assert!(rt; ends(alloc, &words, &mut disk, Status::Done, line));
+    let report = "j2k-report 1\nfiles 0\nchoices 0\n";
+    let is_made = holds(alloc, disk.files(), "out/j2k-report.txt", report)?;
+    assert!(rt; is_made);
+    Ok(())
+}
+
+const PRINTS: &str =
+    "public class B {\n    public static void main(String[] args) {\n        System.out.println(7);\n    }\n}\n";
+
+const NAMES_B: &str =
+    "public class A {\n    public static void main(String[] args) {\n        int B = 7;\n    }\n}\n";
+
+const TWO_FILES: &str =
+    "j2k-report 1\nfiles 2\nchoices 2\nB.java:1:14 companion B\nMain.java:1:14 companion Main\n";
+
+#[test]
+fn two_files(rt: HostRuntime) -> Result<(), Failure> {
+    let alloc = rt.alloc();
+    let words = words_of(alloc, "convert", "src", "out")?;
+    let mut files = file_of(alloc, "src/Main.java", JAVA)?;
+    add(alloc, &mut files, "src/B.java", PRINTS.as_bytes())?;
+    let mut disk = SteadyDisk::new(files);
+    let line = "converted: files 2, classes 2, choices 2\n";
+    assert!(rt; ends(alloc, &words, &mut disk, Status::Done, line));
+    let is_made = made(alloc, disk.files(), KOTLIN, TWO_FILES)?;
+    assert!(rt; is_made);
+    Ok(())
+}
+
+#[test]
+fn local_named_as_a_class(rt: HostRuntime) -> Result<(), Failure> {
+    let alloc = rt.alloc();
+    let alone = file_of(alloc, "src/A.java", NAMES_B)?;
+    let line = "converted: files 1, classes 1, choices 1\n";
+    let taken = answers(alloc, alone, Status::Done, line)?;
+    assert!(rt; taken);
+    let mut both = file_of(alloc, "src/A.java", NAMES_B)?;
+    add(alloc, &mut both, "src/B.java", PRINTS.as_bytes())?;
+    let refused = "A.java:1:1: N0 not built yet\n";
+    let is_refused = answers(alloc, both, Status::Refused, refused)?;
+    assert!(rt; is_refused);
+    Ok(())
+}
+
+#[test]
+fn settings(rt: HostRuntime) -> Result<(), Failure> {
+    let alloc = rt.alloc();
+    let bad = file_of(alloc, "src/j2k.toml", "entries = 3")?;
+    let line = "j2k.toml:1:1: C1 bad settings\n";
+    let refused = answers(alloc, bad, Status::Refused, line)?;
+    assert!(rt; refused);
+    let mut entry = file_of(alloc, "src/j2k.toml", "entries = [\"a.B.c\"]")?;
+    add(alloc, &mut entry, "src/z.java", b"")?;
+    let line = "j2k.toml:1:1: N0 not built yet\n";
+    let refused = answers(alloc, entry, Status::Refused, line)?;
+    assert!(rt; refused);
+    let mut earlier = file_of(alloc, "src/j2k.toml", "entries = [\"a.B.c\"]")?;
+    add(alloc, &mut earlier, "src/A.java", b"")?;
+    let line = "A.java:1:1: N0 not built yet\n";
+    let refused = answers(alloc, earlier, Status::Refused, line)?;
+    assert!(rt; refused);
+    Ok(())
+}
+
+// So many blanks.
+fn blanks(alloc: Global, count: u32) -> Result<String, NoMemory> {
+    let mut text = String::new(alloc);
+    for _ in 0..count {
+        text.push(' ')?;
+    }
+    Ok(text)
+}
+
+#[test]
+fn long_file(rt: HostRuntime) -> Result<(), Failure> {
+    let alloc = rt.alloc();
+    let mut text = blanks(alloc, 1_048_576)?;
+    let files = file_of(alloc, "src/A.java", text.as_str())?;
+    let line = "A.java:1:1: N0 not built yet\n";
+    let refused = answers(alloc, files, Status::Refused, line)?;
+    assert!(rt; refused);
+    text.push(' ')?;
+    let files = file_of(alloc, "src/A.java", text.as_str())?;
+    let line = "j2k: too large: A.java 1048576\n";
+    let large = answers(alloc, files, Status::TooLarge, line)?;
+    assert!(rt; large);
+    Ok(())
+}
+
+#[test]
+fn long_files(rt: HostRuntime) -> Result<(), Failure> {
+    let alloc = rt.alloc();
+    let text = blanks(alloc, 1_048_576)?;
+    let mut files = file_of(alloc, "src/q.java", " ")?;
+    for letter in [
+        "a", "b", "c", "d", "e", "f", "g", "h", "i", "j", "k", "l", "m", "n", "o", "p",
+    ] {
+        let path = format!(in alloc; "src/{letter}.java")?;
+        add(alloc, &mut files, path.as_str(), text.as_bytes())?;
+    }
+    let line = "j2k: too large: total 16777216\n";
+    let large = answers(alloc, files, Status::TooLarge, line)?;
+    assert!(rt; large);
+    Ok(())
+}
+
+#[test]
+fn many_files(rt: HostRuntime) -> Result<(), Failure> {
+    let alloc = rt.alloc();
+    let mut files = FileMap::new(alloc);
+    for number in 0..2_001u32 {
+        let path = format!(in alloc; "src/{number}.java")?;
+        add(alloc, &mut files, path.as_str(), b"")?;
+    }
+    let line = "j2k: too large: files 2000\n";
+    let large = answers(alloc, files, Status::TooLarge, line)?;
+    assert!(rt; large);
     Ok(())
 }

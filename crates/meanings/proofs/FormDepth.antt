@@ -19,11 +19,11 @@ use Rattle.meanings.specs.Outcome.{torn}
 use Rattle.meanings.specs.Values.{Torn}
 use Rattle.meanings.specs.Machine.{Place}
 use Rattle.meanings.specs.Static.{KType, is_non_null, Static, declared, extended}
-use Rattle.meanings.specs.Java.{java_operand, java_expr, java_stmt, java_program}
-use Rattle.meanings.specs.Kotlin.{used, kotlin_operand, kotlin_expr, kotlin_stmt, kotlin_stmts, kotlin_program}
+use Rattle.meanings.specs.Java.{java_operand, java_expr, java_stmt, java_main, java_program}
+use Rattle.meanings.specs.Kotlin.{used, kotlin_operand, kotlin_expr, kotlin_stmt, kotlin_stmts, kotlin_main, kotlin_program}
 use Rattle.std.specs.Prelude.{Option, Some, None, ◌&&◌}
 use Rattle.meanings.specs.Laws.{SameAtEveryDepth}
-use Rattle.meanings.proofs.Depth.{asks, Within, with_bodies, AllWithin, none, more, bind_within, step_within, pure_within, local_within, assign_within, if_within, print_line_within, arithmetic_within, binary_within, sequence_within, WithinProgram, deeper}
+use Rattle.meanings.proofs.Depth.{asks, Within, with_bodies, AllWithin, none, more, bind_within, step_within, pure_within, local_within, assign_within, if_within, print_line_within, arithmetic_within, binary_within, sequence_within, WithinTexts, WithinProgram, deeper}
 
 -- ---- Java
 
@@ -44,16 +44,20 @@ module _ {w : ℕ} (p q : Place) where
   java_stmts_within [] = none
   java_stmts_within (s ∷ body) = more (java_stmt_within s) (java_stmts_within body)
 
-java_within : (class : JClass) → WithinProgram (java_program class)
-java_within class = record {
-  methods = (record { by = λ w p {b} {b'} h. sequence_within (java_stmts_within (with_bodies p b) (with_bodies p b') class.main) }, tt);
+java_methods_within : (classes : List JClass) → WithinTexts (map java_main classes)
+java_methods_within [] = tt
+java_methods_within (class ∷ classes) = (record { by = λ w p {b} {b'} h. sequence_within (java_stmts_within (with_bodies p b) (with_bodies p b') class.main) }, java_methods_within classes)
+
+java_within : (classes : List JClass) → WithinProgram (java_program classes)
+java_within classes = record {
+  methods = java_methods_within classes;
   constructors = tt;
   lambdas = tt;
   initializers = tt;
 }
 
-pub java_at_every_depth : (class : JClass) → SameAtEveryDepth (java_program class)
-java_at_every_depth class = deeper (java_within class)
+pub java_at_every_depth : (classes : List JClass) → SameAtEveryDepth (java_program classes)
+java_at_every_depth classes = deeper (java_within classes)
 
 -- ---- Kotlin
 
@@ -81,13 +85,17 @@ module _ {w : ℕ} (p q : Place) where
   kotlin_stmts_within static [] = pure_within tt
   kotlin_stmts_within static (s ∷ body) = step_within (kotlin_stmt_within static s) (kotlin_stmts_within (extended static s) body)
 
-kotlin_within : (class : KClass) → WithinProgram (kotlin_program class)
-kotlin_within class = record {
-  methods = (record { by = λ w p {b} {b'} h. kotlin_stmts_within (with_bodies p b) (with_bodies p b') _ class.main }, tt);
+kotlin_methods_within : (classes : List KClass) → WithinTexts (map kotlin_main classes)
+kotlin_methods_within [] = tt
+kotlin_methods_within (class ∷ classes) = (record { by = λ w p {b} {b'} h. kotlin_stmts_within (with_bodies p b) (with_bodies p b') _ class.main }, kotlin_methods_within classes)
+
+kotlin_within : (classes : List KClass) → WithinProgram (kotlin_program classes)
+kotlin_within classes = record {
+  methods = kotlin_methods_within classes;
   constructors = tt;
   lambdas = tt;
   initializers = tt;
 }
 
-pub kotlin_at_every_depth : (class : KClass) → SameAtEveryDepth (kotlin_program class)
-kotlin_at_every_depth class = deeper (kotlin_within class)
+pub kotlin_at_every_depth : (classes : List KClass) → SameAtEveryDepth (kotlin_program classes)
+kotlin_at_every_depth classes = deeper (kotlin_within classes)

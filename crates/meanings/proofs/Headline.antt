@@ -1,5 +1,5 @@
--- The headline's theorem: the Kotlin of a class makes the steps of the class, in every run.
-use Rattle.std.proofs.Common.{◌≡◌, ◌≢◌, ℕ, zero, suc, List, [], ◌∷◌, ◌++◌, map, Option, Some, None, slice_get, slice_set, refl, sym, ◌∙◌, subst}
+-- The headline's theorem: the Kotlin of a project makes the steps of the project, in every run.
+use Rattle.std.proofs.Common.{◌≡◌, ◌≢◌, ℕ, zero, suc, List, [], ◌∷◌, ◌++◌, map, Option, Some, None, slice_get, slice_set, refl, sym, ◌∙◌, ap, subst}
 use Rattle.meanings.specs.declared.java.JOperand.{JOperand}
 use Rattle.meanings.specs.declared.java.JOperand.TheVariants.{Local as LocalName, Number}
 use Rattle.meanings.specs.declared.java.JExpr.{JExpr}
@@ -7,17 +7,18 @@ use Rattle.meanings.specs.declared.java.JExpr.TheVariants.{Operand, Binary}
 use Rattle.meanings.specs.declared.java.JStmt.{JStmt}
 use Rattle.meanings.specs.declared.java.JStmt.TheVariants.{Local, Print}
 use Rattle.meanings.specs.declared.java.JClass.{JClass}
-use Rattle.meanings.specs.Convert.{class_of}
-use Rattle.meanings.specs.Values.{Site, Value, Step, Touch, InitEnd, Alloc, Built, Get, Put, GetStatic, PutStatic, GetElem, PutElem, Enter, Exit, Print as PrintStep, ReadByte, Lib, Raise, Start as StartStep, Join, End, Torn, Answer, Ready, Run, Mine, Failed, Done, Given, Raised}
+use Rattle.meanings.specs.declared.kotlin.KClass.{KClass}
+use Rattle.meanings.specs.Convert.{classes_of}
+use Rattle.meanings.specs.Values.{Name, Site, Value, Step, Touch, InitEnd, Alloc, Built, Get, Put, GetStatic, PutStatic, GetElem, PutElem, Enter, Exit, Print as PrintStep, ReadByte, Lib, Raise, Start as StartStep, Join, End, Torn, Answer, Ready, Run, Mine, Failed, Done, Given, Raised}
 use Rattle.meanings.specs.Machine.{Place}
 use Rattle.meanings.specs.Program.{main_entry, Turn, Next, IsBusy, Ended, Start}
 use Rattle.meanings.specs.World.{World, Reply, answer}
 use Rattle.meanings.specs.Runs.{Thread, Behavior, begun, with_new, replied, turned, turn_of, run, NeverTorn}
-use Rattle.meanings.specs.Java.{java_operand, java_expr, java_stmt, java_program, JavaThread}
+use Rattle.meanings.specs.Java.{java_operand, java_expr, java_stmt, java_main, java_program, JavaThread}
 use Rattle.meanings.specs.Kotlin.{KotlinThread}
 use Rattle.meanings.specs.Entries.{Input, first_world, first_threads}
 use Rattle.meanings.specs.SameSteps.{SameSteps}
-use Rattle.meanings.proofs.Calm.{Calm, CalmProgram, AllCalm, none, more, bind_calm, pure_calm, local_calm, assign_calm, arithmetic_calm, binary_calm, print_line_calm, sequence_calm, thread_calm}
+use Rattle.meanings.proofs.Calm.{Calm, CalmTexts, CalmProgram, AllCalm, none, more, bind_calm, pure_calm, local_calm, assign_calm, arithmetic_calm, binary_calm, print_line_calm, sequence_calm, thread_calm}
 use Rattle.meanings.proofs.RunLaws.{Kept, run_same, run_never_torn}
 use Rattle.meanings.proofs.SameText.{IsGiven, thread_same}
 
@@ -39,8 +40,12 @@ stmts_calm : (p : Place) (body : List JStmt) → AllCalm (map (java_stmt p) body
 stmts_calm p [] = none
 stmts_calm p (s ∷ body) = more (stmt_calm p s) (stmts_calm p body)
 
-pub java_calm : (class : JClass) → CalmProgram (java_program class)
-java_calm class = record { methods = (λ p h. sequence_calm (stmts_calm p class.main), tt); constructors = tt; lambdas = tt; initializers = tt }
+methods_calm : (classes : List JClass) → CalmTexts (map java_main classes)
+methods_calm [] = tt
+methods_calm (class ∷ classes) = (λ p h. sequence_calm (stmts_calm p class.main), methods_calm classes)
+
+pub java_calm : (classes : List JClass) → CalmProgram (java_program classes)
+java_calm classes = record { methods = methods_calm classes; constructors = tt; lambdas = tt; initializers = tt }
 
 -- ---- each thread starts with given arguments
 
@@ -115,23 +120,34 @@ first_given : (o : Option Site) (input : Input) → StartsGiven (first_threads o
 first_given None input = tt
 first_given (Some site) input = ((refl, tt), tt)
 
-pub run_of_class : (class : JClass) (n : ℕ) (w : World) (ts : List Thread) → StartsGiven ts → (schedule : List ℕ) → run (KotlinThread (class_of class)) n w ts schedule ≡ run (JavaThread class) n w ts schedule
-run_of_class class n w ts h schedule =
-    run_same (KotlinThread (class_of class)) (JavaThread class) n (λ w ts. StartsGiven ts) (λ w ts h i t is. thread_same class t.start (start_at ts h i t is) t.had n) (kept (KotlinThread (class_of class)) n) w ts h schedule
+pub run_of_project : (classes : List JClass) (n : ℕ) (w : World) (ts : List Thread) → StartsGiven ts → (schedule : List ℕ) → run (KotlinThread (classes_of classes)) n w ts schedule ≡ run (JavaThread classes) n w ts schedule
+run_of_project classes n w ts h schedule =
+    run_same (KotlinThread (classes_of classes)) (JavaThread classes) n (λ w ts. StartsGiven ts) (λ w ts h i t is. thread_same classes t.start (start_at ts h i t is) t.had n) (kept (KotlinThread (classes_of classes)) n) w ts h schedule
 
 -- a Kotlin thread with given arguments never asks Torn either
-kotlin_calm : (class : JClass) (start : Start) → IsGiven start → (answers : List Answer) (n : ℕ) → KotlinThread (class_of class) start answers n ≢ Next Torn
-kotlin_calm class start given answers n e = thread_calm (java_calm class) start answers n (sym (thread_same class start given answers n) ∙ e)
+kotlin_calm : (classes : List JClass) (start : Start) → IsGiven start → (answers : List Answer) (n : ℕ) → KotlinThread (classes_of classes) start answers n ≢ Next Torn
+kotlin_calm classes start given answers n e = thread_calm (java_calm classes) start answers n (sym (thread_same classes start given answers n) ∙ e)
 
-never_torn_of_class : (class : JClass) (n : ℕ) (w : World) (ts : List Thread) → StartsGiven ts → (schedule : List ℕ) → NeverTorn (run (KotlinThread (class_of class)) n w ts schedule)
-never_torn_of_class class n w ts h schedule =
-    run_never_torn (KotlinThread (class_of class)) n (λ w ts. StartsGiven ts) (λ w ts h i t is. kotlin_calm class t.start (start_at ts h i t is) t.had n) (kept (KotlinThread (class_of class)) n) w ts h schedule
+never_torn_of_project : (classes : List JClass) (n : ℕ) (w : World) (ts : List Thread) → StartsGiven ts → (schedule : List ℕ) → NeverTorn (run (KotlinThread (classes_of classes)) n w ts schedule)
+never_torn_of_project classes n w ts h schedule =
+    run_never_torn (KotlinThread (classes_of classes)) n (λ w ts. StartsGiven ts) (λ w ts h i t is. kotlin_calm classes t.start (start_at ts h i t is) t.had n) (kept (KotlinThread (classes_of classes)) n) w ts h schedule
 
--- the headline's theorem, for every class of the form
-pub same_steps : (class : JClass) → SameSteps class (class_of class)
-same_steps class = record {
+-- the classes keep their names
+names_kept : (classes : List JClass) → map (λ (class : KClass). class.name) (classes_of classes) ≡ map (λ (class : JClass). class.name) classes
+names_kept [] = refl
+names_kept (class ∷ classes) = ap (λ (names : List Name). class.name ∷ names) (names_kept classes)
+
+-- so the same threads begin
+threads_kept : (classes : List JClass) (class method : Name) (input : Input) →
+    first_threads (main_entry (map (λ (class : KClass). class.name) (classes_of classes)) class method) input ≡ first_threads (main_entry (map (λ (class : JClass). class.name) classes) class method) input
+threads_kept classes class method input = ap (λ (names : List Name). first_threads (main_entry names class method) input) (names_kept classes)
+
+-- the headline's theorem, for every project of the form
+pub same_steps : (classes : List JClass) → SameSteps classes (classes_of classes)
+same_steps classes = record {
   same = λ entry is input schedule n.
-      run_of_class class n (first_world (java_program class) input) (first_threads (main_entry class.name entry.class entry.method) input) (first_given (main_entry class.name entry.class entry.method) input) schedule;
+      ap (λ (ts : List Thread). run (KotlinThread (classes_of classes)) n (first_world (java_program classes) input) ts schedule) (threads_kept classes entry.class entry.method input)
+      ∙ run_of_project classes n (first_world (java_program classes) input) (first_threads (main_entry (map (λ (class : JClass). class.name) classes) entry.class entry.method) input) (first_given _ input) schedule;
   never_torn = λ entry is input schedule n.
-      never_torn_of_class class n (first_world (java_program class) input) (first_threads (main_entry class.name entry.class entry.method) input) (first_given (main_entry class.name entry.class entry.method) input) schedule;
+      never_torn_of_project classes n (first_world (java_program classes) input) (first_threads (main_entry (map (λ (class : KClass). class.name) (classes_of classes)) entry.class entry.method) input) (first_given _ input) schedule;
 }

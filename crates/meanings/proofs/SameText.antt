@@ -8,14 +8,14 @@ use Rattle.meanings.specs.declared.java.JExpr.TheVariants.{Operand, Binary}
 use Rattle.meanings.specs.declared.java.JStmt.{JStmt}
 use Rattle.meanings.specs.declared.java.JStmt.TheVariants.{Local, Print}
 use Rattle.meanings.specs.declared.java.JClass.{JClass}
-use Rattle.meanings.specs.Convert.{operand_of, expression_of, statement_of, class_of}
+use Rattle.meanings.specs.Convert.{operand_of, expression_of, statement_of, classes_of}
 use Rattle.meanings.specs.Values.{Name, same_name, Site, same_site, Kind, Value, Null, Integer, Lambda, captured_list, Int, Step, Answer, Ready, Run, Mine, Failed, Done, Given, Raised, is_null, integer_in, narrowed}
 use Rattle.meanings.specs.Outcome.{Locals, get, State, Outcome, Asks, Busy, Gives, Jumps, Meaning, then_do, pure, torn, ◌>>◌, ask_from, pay_from, assign_all}
-use Rattle.meanings.specs.Machine.{Place, operated, received, print_line, returned, sequence}
-use Rattle.meanings.specs.Program.{Start, Enters, Runs, thread_from, turn, place, bodies, run_site, main_site}
+use Rattle.meanings.specs.Machine.{Bodies, Place, operated, received, print_line, returned, sequence}
+use Rattle.meanings.specs.Program.{Program, Start, Enters, Runs, thread_from, turn, enter, place, bodies, run_site, main_site}
 use Rattle.meanings.specs.Static.{KType, type_of, is_non_null, Static, declared, extended, main_static}
-use Rattle.meanings.specs.Java.{java_expr, java_operand, java_stmt, java_program, JavaThread}
-use Rattle.meanings.specs.Kotlin.{used, operator_kind, kotlin_expr, kotlin_operand, kotlin_stmts, kotlin_program, KotlinThread}
+use Rattle.meanings.specs.Java.{java_expr, java_operand, java_stmt, java_main, java_program, JavaThread}
+use Rattle.meanings.specs.Kotlin.{used, operator_kind, kotlin_expr, kotlin_operand, kotlin_stmts, kotlin_main, kotlin_program, KotlinThread}
 
 -- ---- no value is null
 
@@ -152,23 +152,35 @@ abbrev pub IsGiven : Start → Type 0
 IsGiven (Enters site vs) = AllGiven vs
 IsGiven (Runs v) = Unit {0}
 
-module _ (class : JClass) where
-  method_same : (d : ℕ) (site : Site) (vs : List Value) → AllGiven vs → (s : State) → LocalsGiven s.locals →
-      (bodies (kotlin_program (class_of class)) d).method site vs s ≡ (bodies (java_program class) d).method site vs s
-  method_same zero site vs given s h = refl
-  method_same (suc d) site vs given s h =
-      if_same (same_site (main_site class.name) site) _ _ _ _ s
-      (paid_same (place (kotlin_program (class_of class)) (bodies (kotlin_program (class_of class)) d) class.name) (place (java_program class) (bodies (java_program class) d) class.name) class.main vs given s h s.n) refl
+-- the same methods of a list of classes, whatever bodies they call
+entered_among : (kotlin java : Program) (b b' : Bodies) (list : List JClass) (site : Site) (vs : List Value) → AllGiven vs → (s : State) → LocalsGiven s.locals →
+    enter kotlin b (map kotlin_main (classes_of list)) site vs s ≡ enter java b' (map java_main list) site vs s
+entered_among kotlin java b b' [] site vs given s h = refl
+entered_among kotlin java b b' (class ∷ list) site vs given s h =
+    if_same (same_site (main_site class.name) site) _ _ _ _ s
+    (paid_same (place kotlin b class.name) (place java b' class.name) class.main vs given s h s.n)
+    (entered_among kotlin java b b' list site vs given s h)
 
-  lambda_same : (d : ℕ) (site : Site) (captured vs : List Value) → (bodies (kotlin_program (class_of class)) d).lambda site captured vs ≡ (bodies (java_program class) d).lambda site captured vs
+module _ (classes : List JClass) where
+  abbrev kotlin : Program
+  kotlin = kotlin_program (classes_of classes)
+
+  abbrev java : Program
+  java = java_program classes
+
+  method_same : (d : ℕ) (site : Site) (vs : List Value) → AllGiven vs → (s : State) → LocalsGiven s.locals → (bodies kotlin d).method site vs s ≡ (bodies java d).method site vs s
+  method_same zero site vs given s h = refl
+  method_same (suc d) site vs given s h = entered_among kotlin java (bodies kotlin d) (bodies java d) classes site vs given s h
+
+  lambda_same : (d : ℕ) (site : Site) (captured vs : List Value) → (bodies kotlin d).lambda site captured vs ≡ (bodies java d).lambda site captured vs
   lambda_same zero site captured vs = refl
   lambda_same (suc d) site captured vs = refl
 
-  from_same : (d : ℕ) (start : Start) → IsGiven start → (s : State) → thread_from (kotlin_program (class_of class)) (bodies (kotlin_program (class_of class)) d) start s ≡ thread_from (java_program class) (bodies (java_program class) d) start s
+  from_same : (d : ℕ) (start : Start) → IsGiven start → (s : State) → thread_from kotlin (bodies kotlin d) start s ≡ thread_from java (bodies java d) start s
   from_same d (Enters site vs) given s = ap (returned s.locals) (method_same d site vs given (record s { locals = [] }) tt)
   from_same d (Runs (Lambda site k captured)) given s = ap (λ (m : Meaning (Unit {0})). returned s.locals (m (record s { locals = [] }))) (lambda_same d site (captured_list captured) [])
   from_same d (Runs Null) given s = refl
   from_same d (Runs object) given s = ap (returned s.locals) (method_same d run_site (object ∷ []) (refl, tt) (record s { locals = [] }) tt)
 
-  pub thread_same : (start : Start) → IsGiven start → (answers : List Answer) (n : ℕ) → KotlinThread (class_of class) start answers n ≡ JavaThread class start answers n
+  pub thread_same : (start : Start) → IsGiven start → (answers : List Answer) (n : ℕ) → KotlinThread (classes_of classes) start answers n ≡ JavaThread classes start answers n
   thread_same start given answers n = ap turn (from_same (n + length answers) start given (record { locals = []; answers = answers; n = n }))

@@ -23,7 +23,7 @@ program text initializer = record {
   constructors = [];
   lambdas = record { site = main; parameters = []; text = λ p. print_line (Integer Int (pos 5)) } ∷ [];
   initializers = record { class = a; text = initializer } ∷ [];
-  entry = main_entry (codes "Main");
+  entry = main_entry (codes "Main" ∷ []);
   defaults = [];
   is_idle = λ name. true;
   touches = λ own name. same_name name a;

@@ -1,5 +1,5 @@
 -- The Kotlin of a Java tree, part by part.
-use Rattle.std.specs.Prelude.{map}
+use Rattle.std.specs.Prelude.{List, map}
 use Rattle.meanings.specs.declared.java.JOperand.{JOperand}
 use Rattle.meanings.specs.declared.java.JOperand.TheVariants.{Local as JLocal, Number as JNumber}
 use Rattle.meanings.specs.declared.java.JExpr.{JExpr}
@@ -31,3 +31,7 @@ statement_of (JPrint value) = Print (expression_of value)
 -- a class whose one member is static has that member in its companion
 abbrev pub class_of : JClass → KClass
 class_of class = record { name = class.name; main = map statement_of class.main }
+
+-- the classes of a project
+abbrev pub classes_of : List JClass → List KClass
+classes_of classes = map class_of classes

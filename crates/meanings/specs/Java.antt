@@ -1,4 +1,4 @@
--- Java: what each construct of a typed tree does, and the program of a class.
+-- Java: what each construct of a typed tree does, and the program of a project.
 use Rattle.std.specs.Prelude.{ℕ, pos, true, false, List, [], ◌∷◌, map, codes}
 use Rattle.meanings.specs.declared.java.JOperand.{JOperand}
 use Rattle.meanings.specs.declared.java.JOperand.TheVariants.{Local as LocalName, Number}
@@ -10,7 +10,7 @@ use Rattle.meanings.specs.declared.java.JClass.{JClass}
 use Rattle.meanings.specs.Values.{Value, Integer, Int, Answer}
 use Rattle.meanings.specs.Outcome.{Meaning, pure, ◌>>=◌, local, assign}
 use Rattle.meanings.specs.Machine.{Place, print_line, arithmetic, binary, sequence}
-use Rattle.meanings.specs.Program.{Program, Start, Turn, thread, is_library_error, main_site, main_entry}
+use Rattle.meanings.specs.Program.{Program, Body, Start, Turn, thread, is_library_error, main_site, main_entry}
 
 -- a simple name (JLS 6.5.6.1) or a decimal literal (JLS 3.10.1, 15.8.1)
 abbrev pub java_operand : Place → JOperand → Meaning Value
@@ -31,14 +31,18 @@ java_stmt p (Print value) = java_expr p value >>= print_line
 abbrev pub java_stmts : Place → List JStmt → List (Meaning (Unit {0}))
 java_stmts p body = map (java_stmt p) body
 
--- Its class has no static initializers, so it is idle: it is never touched (own rule).
-abbrev pub java_program : JClass → Program
-java_program class = record {
-  methods = record { site = main_site class.name; parameters = codes "args" ∷ []; text = λ p. sequence (java_stmts p class.main) } ∷ [];
+-- `main` (JLS 12.1.4)
+abbrev pub java_main : JClass → Body
+java_main class = record { site = main_site class.name; parameters = codes "args" ∷ []; text = λ p. sequence (java_stmts p class.main) }
+
+-- The program of a project's classes. They have no static initializers, so they are idle: they are never touched (own rule).
+abbrev pub java_program : List JClass → Program
+java_program classes = record {
+  methods = map java_main classes;
   constructors = [];
   lambdas = [];
   initializers = [];
-  entry = main_entry class.name;
+  entry = main_entry (map (λ class. class.name) classes);
   defaults = [];
   is_idle = λ name. true;
   touches = λ own name. false;
@@ -46,6 +50,6 @@ java_program class = record {
   is_error = is_library_error;
 }
 
--- what a thread of the Java class does next after these answers, with the bound n
-abbrev pub JavaThread : JClass → Start → List Answer → ℕ → Turn
-JavaThread class = thread (java_program class)
+-- what a thread of the Java project does next after these answers, with the bound n
+abbrev pub JavaThread : List JClass → Start → List Answer → ℕ → Turn
+JavaThread classes = thread (java_program classes)

@@ -1,5 +1,5 @@
--- Kotlin: what each construct of a tree does at a place with its declared types, and the program of a class.
-use Rattle.std.specs.Prelude.{ℕ, pos, true, false, ◌&&◌, List, [], ◌∷◌, Option, Some, None, if◌then◌else◌, codes}
+-- Kotlin: what each construct of a tree does at a place with its declared types, and the program of a project.
+use Rattle.std.specs.Prelude.{ℕ, pos, true, false, ◌&&◌, List, [], ◌∷◌, map, Option, Some, None, if◌then◌else◌, codes}
 use Rattle.meanings.specs.declared.kotlin.KOperand.{KOperand}
 use Rattle.meanings.specs.declared.kotlin.KOperand.TheVariants.{Local, Number}
 use Rattle.meanings.specs.declared.kotlin.KExpr.{KExpr}
@@ -10,7 +10,7 @@ use Rattle.meanings.specs.declared.kotlin.KClass.{KClass}
 use Rattle.meanings.specs.Values.{Kind, Value, Integer, Int, is_null, Answer}
 use Rattle.meanings.specs.Outcome.{Meaning, pure, ◌>>=◌, ◌>>◌, torn, local, assign}
 use Rattle.meanings.specs.Machine.{Place, print_line, arithmetic, binary}
-use Rattle.meanings.specs.Program.{Program, Start, Turn, thread, is_library_error, main_site, main_entry}
+use Rattle.meanings.specs.Program.{Program, Body, Start, Turn, thread, is_library_error, main_site, main_entry}
 use Rattle.meanings.specs.Static.{KType, is_non_null, Static, declared, type_of, extended, main_static}
 
 -- A value at a use: null at a place of a non-null type is Torn (own rule). Where no type is known nothing is.
@@ -44,14 +44,18 @@ abbrev pub kotlin_stmts : Place → Static → List KStmt → Meaning (Unit {0})
 kotlin_stmts p static [] = pure tt
 kotlin_stmts p static (statement ∷ more) = kotlin_stmt p static statement >> kotlin_stmts p (extended static statement) more
 
--- The companion has no property and no `init`, so the class is idle (own rule).
-abbrev pub kotlin_program : KClass → Program
-kotlin_program class = record {
-  methods = record { site = main_site class.name; parameters = codes "args" ∷ []; text = λ p. kotlin_stmts p main_static class.main } ∷ [];
+-- `main`, which the companion holds
+abbrev pub kotlin_main : KClass → Body
+kotlin_main class = record { site = main_site class.name; parameters = codes "args" ∷ []; text = λ p. kotlin_stmts p main_static class.main }
+
+-- The program of a project's classes. Their companions have no property and no `init`, so the classes are idle (own rule).
+abbrev pub kotlin_program : List KClass → Program
+kotlin_program classes = record {
+  methods = map kotlin_main classes;
   constructors = [];
   lambdas = [];
   initializers = [];
-  entry = main_entry class.name;
+  entry = main_entry (map (λ class. class.name) classes);
   defaults = [];
   is_idle = λ name. true;
   touches = λ own name. false;
@@ -59,6 +63,6 @@ kotlin_program class = record {
   is_error = is_library_error;
 }
 
--- what a thread of the Kotlin class does next after these answers, with the bound n
-abbrev pub KotlinThread : KClass → Start → List Answer → ℕ → Turn
-KotlinThread class = thread (kotlin_program class)
+-- what a thread of the Kotlin project does next after these answers, with the bound n
+abbrev pub KotlinThread : List KClass → Start → List Answer → ℕ → Turn
+KotlinThread classes = thread (kotlin_program classes)

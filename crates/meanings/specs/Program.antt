@@ -42,15 +42,16 @@ is_library_error name = if same_name name (codes "Error") then true else (if sam
 abbrev pub run_site : Site
 run_site = record { class = codes "Runnable"; is_static = false; ordinal = 0 }
 
--- ---- a class of this form, whose one method is `main`
+-- ---- classes of this form, whose one method is `main`
 
 -- `main` is the first of the static part
 abbrev pub main_site : Name → Site
 main_site class = record { class = class; is_static = true; ordinal = 0 }
 
--- its entry point (JLS 12.1.4)
-abbrev pub main_entry : Name → Name → Name → Option Site
-main_entry own class method = if same_name class own && same_name method (codes "main") then Some (main_site own) else None
+-- the entry points of classes of these names (JLS 12.1.4)
+abbrev pub main_entry : List Name → Name → Name → Option Site
+main_entry [] class method = None
+main_entry (own ∷ names) class method = if same_name class own && same_name method (codes "main") then Some (main_site own) else main_entry names class method
 
 -- ---- threads
 

@@ -1,23 +1,23 @@
 // Laws of the meanings: each is the contract of a function that does nothing.
-
+ghost use Rattle.std.specs.Prelude.{List};
 ghost use Rattle.meanings.specs.declared.java.JClass.{JClass};
 ghost use Rattle.meanings.specs.declared.kotlin.KClass.{KClass};
-ghost use Rattle.meanings.specs.Convert.{class_of};
+ghost use Rattle.meanings.specs.Convert.{classes_of};
 ghost use Rattle.meanings.specs.Java.{java_program};
 ghost use Rattle.meanings.specs.Kotlin.{kotlin_program};
 ghost use Rattle.meanings.specs.SameSteps.{SameSteps};
 ghost use Rattle.meanings.specs.Laws.{SameIsEqual, SameAtEveryDepth, EqualRuns, MatchingRuns, OnlyStepsChange, ThreadsAgree, OneAnswer, ChangesOnlyWhatItSays, RunsGrow, SpellingIsKept, TypesAreKept};
 ghost use Rattle.meanings.specs.KSpells.{SpellsOne};
 
-/// The Kotlin of a class makes exactly the steps of the class, in every run, and Torn never comes.
+/// The Kotlin of a project makes exactly the steps of the project, in every run, and Torn never comes.
 pub fn same_steps()
-    ensures { (class : JClass) → SameSteps class (class_of class) }
+    ensures { (classes : List JClass) → SameSteps classes (classes_of classes) }
 {}
 
 /// A thread is the same with every larger depth, in both languages.
 pub fn same_at_every_depth()
-    ensures java { (class : JClass) → SameAtEveryDepth (java_program class) }
-    ensures kotlin { (class : KClass) → SameAtEveryDepth (kotlin_program class) }
+    ensures java { (classes : List JClass) → SameAtEveryDepth (java_program classes) }
+    ensures kotlin { (classes : List KClass) → SameAtEveryDepth (kotlin_program classes) }
 {}
 
 /// Equal threads, under an invariant that each turn keeps, give equal runs for every schedule; so do matching turns from two worlds.

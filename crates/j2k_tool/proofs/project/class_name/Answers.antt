@@ -1,7 +1,7 @@
 use Rattle.std.proofs.Common.{ℕ, List, ◌++◌, sym, ◌∙◌, ap}
 use Rattle.std.proofs.lemmas.Slice.Eq.{strip_suffix_is}
 use Rattle.std.proofs.lemmas.Bool.Decides.{Decides-eqb}
-use Rattle.j2k_tool.specs.declared.texts.TheConstants.{JAVA_END}
+use Rattle.j2k_sources.specs.declared.loading.TheConstants.{JAVA_END}
 use Rattle.j2k_tool.proofs.Projects.{class_is}
 use Rattle.j2k_tool.proofs.project.class_name.Goals as goal
 

@@ -1,0 +1,6 @@
+use Rattle.std.proofs.Common.{◌≡◌, map, take}
+use Rattle.j2k_tool.specs.Written.{kotlin_file}
+use Rattle.j2k_tool.proofs.writing.kotlin_files.Given as goal
+
+abbrev pub invariant-loop-class : goal.invariant-loop-class
+invariant-loop-class l = l.files ≡ map kotlin_file (take l.class-index l.classes)
