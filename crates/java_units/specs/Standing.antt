@@ -3,7 +3,8 @@ use Rattle.std.specs.Prelude.{◌≡◌, ◌≤◌, ◌+◌, ◌-◌, ℕ, zero,
 use Rattle.std.specs.List.{AllByRecursion}
 use Rattle.java_tree.specs.declared.tokens.Position.{Position}
 use Rattle.java_tree.specs.Seen.{Token, Tokens, pieces}
-use Rattle.java_tree.specs.Trees.{tokens, any_level, init_level, TypedStands, Stands, max_depth}
+use Rattle.java_tree.specs.declared.exprs.JExpr.{JExpr}
+use Rattle.java_tree.specs.Trees.{tokens, any_level, init_level, TypeStands, Stands, max_depth}
 use Rattle.java_heads.specs.declared.declarations.JDeclarator.{JDeclarator}
 use Rattle.java_heads.specs.declared.declarations.JDeclaration.{JDeclaration}
 use Rattle.java_heads.specs.declared.statements.JSimple.{JSimple}
@@ -25,8 +26,9 @@ use Rattle.java_units.specs.declared.statements.JCatch.{JCatch, out-JCatch}
 use Rattle.java_units.specs.declared.statements.JMember.{JMember, out-JMember}
 use Rattle.java_units.specs.declared.statements.JStatement.{JStatement, out-JStatement, fold-JStatement}
 use Rattle.java_units.specs.declared.statements.JBody.TheOpen.{JBody-F, JCase-F, JCaseGroup-F, JCatch-F, JMember-F, JStatement-F}
-use Rattle.java_units.specs.Tokens.{filled, body_tokens}
-use Rattle.java_units.specs.Levels.{Levels, levels, simple_levels, for_levels, lock_levels, switch_levels, declaration_levels, constants_levels}
+use Rattle.java_units.specs.Tokens.{filled, body_tokens, unit_tokens}
+use Rattle.java_units.specs.declared.units.JUnit.{JUnit}
+use Rattle.java_units.specs.Levels.{Levels, all_levels, value_levels, levels, simple_levels, for_levels, lock_levels, switch_levels, declaration_levels, constants_levels}
 
 -- ---- an `if` without `else` at the end, to which a following `else` would belong (JLS 14.5)
 
@@ -79,22 +81,29 @@ member_fits Owner.Interface has_body x = interface_member_fits has_body x
 
 -- ---- bodies of a head
 
-abbrev pub span_count : Tokens → ℕ
-span_count [] = 0
-span_count (Token.ArrowBody at body ∷ ts) = suc (span_count ts)
-span_count (Token.CloseBody at body ∷ ts) = suc (span_count ts)
-span_count (t ∷ ts) = span_count ts
+-- whether a body is a block of statements
+abbrev pub is_block_by : JBody-F JBody JMember JStatement JCase JCaseGroup JCatch → Bool
+is_block_by (JBody-F.Statements xs) = true
+is_block_by (JBody-F.Members xs) = false
+
+abbrev pub is_block : JBody → Bool
+is_block x = is_block_by (out-JBody x)
+
+-- of each span, whether it is that of a block
+abbrev pub spans : Tokens → List Bool
+spans [] = []
+spans (Token.ArrowBody at body ∷ ts) = true ∷ spans ts
+spans (Token.CloseBody at body ∷ ts) = false ∷ spans ts
+spans (t ∷ ts) = spans ts
 
 -- Each body is that of a span, and the spans count the tokens of the head.
 pub record AreBodies (text : Tokens) (bodies : List JBody) : Type 0 where
-  pub count : length bodies ≡ span_count text
+  pub each : map is_block bodies ≡ spans text
   pub numbered : text ≡ pieces (length (filled text (map body_tokens bodies))) (filled text (map body_tokens bodies))
 
 pub data Node : Type 0 where
   Body : JBody → Node
   Case : JCase → Node
-  Group : JCaseGroup → Node
-  Catch : JCatch → Node
   Statement : Role → JStatement → Node
   Member : Owner → JMember → Node
 
@@ -109,26 +118,136 @@ pub record HeadStands (P : ℕ → Node → Type 0) (d : ℕ) (text : Tokens) (l
   pub stand : bodies_stand P d levels bodies
 
 abbrev pub all_stand : (ℕ → Node → Type 0) → ℕ → Role → List JStatement → Type 0
-all_stand P d role xs = AllByRecursion (λ x. P d (Node.Statement role x)) xs
+all_stand P d place xs = AllByRecursion (λ x. P d (Node.Statement place x)) xs
 
 -- the statements of the block of a constructor
 abbrev pub first_stand : (ℕ → Node → Type 0) → ℕ → List JStatement → Type 0
 first_stand P d [] = Unit {0}
 first_stand P d (x ∷ xs) = P d (Node.Statement Role.First x) × all_stand P d Role.Inner xs
 
--- ---- by cases: what is suc d deep at most, with `P e` of parts that are e deep at most. A block is one deeper than its statements.
+-- ---- by cases: what is suc d deep at most, where `P e` says that a part stands that is e deep at most
 
+-- A block is one deeper than its statements.
 abbrev pub block_stands : (ℕ → Node → Type 0) → ℕ → List JStatement → Type 0
 block_stands P zero xs = ⊥
 block_stands P (suc d) xs = all_stand P d Role.Inner xs
 
+abbrev pub first_block_stands : (ℕ → Node → Type 0) → ℕ → List JStatement → Type 0
+first_block_stands P zero xs = ⊥
+first_block_stands P (suc d) xs = first_stand P d xs
+
+-- the block of a constructor, or of another member
+abbrev pub member_block : (ℕ → Node → Type 0) → ℕ → JMemberHead → List JStatement → Type 0
+member_block P d (head.Constructor mods n at formals throws) xs = first_block_stands P d xs
+member_block P d _ xs = block_stands P d xs
+
+abbrev pub member_levels : JMemberHead → Levels
+member_levels (head.Field mods x) = declaration_levels x
+member_levels _ = []
+
+-- The constants stand exactly where the type is an enum, and their arguments at depth 1.
+abbrev pub constants_stand : (ℕ → Node → Type 0) → JTypeHead → Option JConstants → List JBody → Type 0
+constants_stand P (kind.Enum mods at n nat faces) (Some x) bodies = ConstantsStand max_depth x × HeadStands P 199 (constants_tokens x) (constants_levels x) bodies
+constants_stand P (kind.Enum mods at n nat faces) None bodies = ⊥
+constants_stand P _ None bodies = bodies ≡ []
+constants_stand P _ (Some x) bodies = ⊥
+
 module _ (P : ℕ → Node → Type 0) (d : ℕ) where
-  abbrev pub body_by : JBody-F JBody JMember JStatement JCase JCaseGroup JCatch → Type 0
-  body_by (JBody-F.Statements xs) = all_stand P d Role.Inner xs
-  body_by (JBody-F.Members xs) = AllByRecursion (λ x. P (suc d) (Node.Member (Owner.Class None) x)) xs
+  abbrev pub body_stands : JBody-F JBody JMember JStatement JCase JCaseGroup JCatch → Type 0
+  body_stands (JBody-F.Statements xs) = all_stand P d Role.Inner xs
+  body_stands (JBody-F.Members xs) = AllByRecursion (λ x. P (suc d) (Node.Member (Owner.Class None) x)) xs
 
-  abbrev pub case_by : JCase-F JBody JMember JStatement JCase JCaseGroup JCatch → Type 0
-  case_by x = SwitchStands (suc d) x.label × HeadStands P d (switch_tokens x.label) (switch_levels x.label) x.bodies
+  abbrev pub case_stands : JCase-F JBody JMember JStatement JCase JCaseGroup JCatch → Type 0
+  case_stands x = SwitchStands (suc d) x.label × HeadStands P d (switch_tokens x.label) (switch_levels x.label) x.bodies
 
-  abbrev pub group_by : JCaseGroup-F JBody JMember JStatement JCase JCaseGroup JCatch → Type 0
-  group_by x = (1 ≤ length x.labels) × AllByRecursion (λ y. P (suc d) (Node.Case y)) x.labels × all_stand P (suc d) Role.Inner x.statements
+  abbrev pub group_stands : JCaseGroup-F JBody JMember JStatement JCase JCaseGroup JCatch → Type 0
+  group_stands x = (1 ≤ length x.labels) × AllByRecursion (λ y. P d (Node.Case y)) x.labels × all_stand P d Role.Inner x.statements
+
+  abbrev pub catch_stands : JCatch-F JBody JMember JStatement JCase JCaseGroup JCatch → Type 0
+  catch_stands x = TypeStands d x.caught.kind × block_stands P d x.statements
+
+  abbrev pub condition_stands : JExpr → List JBody → Type 0
+  condition_stands x bodies = Stands d any_level x × HeadStands P d (tokens x) (map suc (levels x)) bodies
+
+  abbrev pub sole_stands : JStatement → Type 0
+  sole_stands x = P d (Node.Statement Role.Sole x)
+
+  -- A try has a catch or a `finally`; before an `else` no `if` is open.
+  abbrev pub statement_stands : Role → JStatement-F JBody JMember JStatement JCase JCaseGroup JCatch → Type 0
+  statement_stands place (JStatement-F.Simple x bodies end) = (may_stand place x ≡ true) × SimpleStands d x × HeadStands P d (simple_tokens x) (simple_levels x) bodies
+  statement_stands place (JStatement-F.Block left xs right) = all_stand P d Role.Inner xs
+  statement_stands place (JStatement-F.Labeled n at colon body) = sole_stands body
+  statement_stands place (JStatement-F.If at lp test bodies rp then_) = condition_stands test bodies × sole_stands then_
+  statement_stands place (JStatement-F.IfElse at lp test bodies rp then_ else_at else_) =
+      condition_stands test bodies × sole_stands then_ × (ends_open then_ ≡ false) × sole_stands else_
+  statement_stands place (JStatement-F.While at lp test bodies rp body) = condition_stands test bodies × sole_stands body
+  statement_stands place (JStatement-F.Do at body while_at lp test bodies rp end) = sole_stands body × condition_stands test bodies
+  statement_stands place (JStatement-F.For at lp head bodies rp body) = ForStands d head × HeadStands P d (for_tokens head) (for_levels head) bodies × sole_stands body
+  statement_stands place (JStatement-F.Switch at lp subject bodies rp left groups right) =
+      condition_stands subject bodies × AllByRecursion (λ x. group_stands (out-JCaseGroup x)) groups
+  statement_stands place (JStatement-F.Synchronized at lp lock bodies rp left xs right) =
+      LockStands d lock × HeadStands P d (lock_tokens lock) (lock_levels lock) bodies × block_stands P d xs
+  statement_stands place (JStatement-F.Try at left xs right catches) =
+      block_stands P d xs × (1 ≤ length catches) × AllByRecursion (λ x. catch_stands (out-JCatch x)) catches
+  statement_stands place (JStatement-F.TryFinally at left xs right catches finally_at last_left lasts last_right) =
+      block_stands P d xs × AllByRecursion (λ x. catch_stands (out-JCatch x)) catches × block_stands P d lasts
+
+  -- a member that stands in an expression
+  abbrev pub member_stands : Owner → JMember-F JBody JMember JStatement JCase JCaseGroup JCatch → Type 0
+  member_stands owner (JMember-F.Declared head bodies end) =
+      (member_fits owner false head ≡ true) × MemberStands d d head × HeadStands P d (member_tokens head) (member_levels head) bodies
+  member_stands owner (JMember-F.Bodied head left xs right) = (member_fits owner true head ≡ true) × MemberStands d d head × member_block P d head xs
+  member_stands owner (JMember-F.Type head left constants bodies members right) =
+      (type_fits (home_of owner) head ≡ true) × TypeHeadStands d head × constants_stand P head constants bodies
+      × AllByRecursion (λ x. P d (Node.Member (owner_of head) x)) members
+
+abbrev pub node_stands : (ℕ → Node → Type 0) → ℕ → Node → Type 0
+node_stands P d (Node.Body x) = body_stands P d (out-JBody x)
+node_stands P d (Node.Case x) = case_stands P d (out-JCase x)
+node_stands P d (Node.Statement place x) = statement_stands P d place (out-JStatement x)
+node_stands P d (Node.Member owner x) = member_stands P d owner (out-JMember x)
+
+-- It stands at a depth of at most the second number; the first bounds the steps to its leaves.
+unfoldable pub NodeStands : ℕ → ℕ → Node → Type 0
+NodeStands zero d x = ⊥
+NodeStands (suc n) zero x = ⊥
+NodeStands (suc n) (suc d) x = node_stands (NodeStands n) d x
+
+-- ---- members that stand in no expression: their bodies and initializers at depth 1
+
+abbrev pub initial_levels : JDeclarator → Levels
+initial_levels x = value_levels x.value
+
+abbrev pub top_levels : JMemberHead → Levels
+top_levels (head.Field mods x) = all_levels (map initial_levels x.names)
+top_levels _ = []
+
+module _ (P : ℕ → Node → Type 0) (Q : Owner → JMember → Type 0) where
+  abbrev pub type_stands : JHome → JTypeHead → Option JConstants → List JBody → List JMember → Type 0
+  type_stands place head constants bodies members =
+      (type_fits place head ≡ true) × TypeHeadStands max_depth head × constants_stand P head constants bodies × AllByRecursion (Q (owner_of head)) members
+
+  abbrev pub top_stands : Owner → JMember-F JBody JMember JStatement JCase JCaseGroup JCatch → Type 0
+  top_stands owner (JMember-F.Declared head bodies end) =
+      (member_fits owner false head ≡ true) × MemberStands max_depth (suc max_depth) head × HeadStands P 199 (member_tokens head) (top_levels head) bodies
+  top_stands owner (JMember-F.Bodied head left xs right) =
+      (member_fits owner true head ≡ true) × MemberStands max_depth (suc max_depth) head × member_block P max_depth head xs
+  top_stands owner (JMember-F.Type head left constants bodies members right) = type_stands (home_of owner) head constants bodies members
+
+  -- a type at the top of a file, or a `;` there
+  abbrev pub file_stands : JMember-F JBody JMember JStatement JCase JCaseGroup JCatch → Type 0
+  file_stands (JMember-F.Declared head.Empty bodies end) = bodies ≡ []
+  file_stands (JMember-F.Type head left constants bodies members right) = type_stands home.File head constants bodies members
+  file_stands _ = ⊥
+
+unfoldable pub TopStands : ℕ → Owner → JMember → Type 0
+TopStands zero owner x = ⊥
+TopStands (suc n) owner x = top_stands (NodeStands n) (TopStands n) owner (out-JMember x)
+
+abbrev pub FileStands : ℕ → JMember → Type 0
+FileStands n x = file_stands (NodeStands n) (TopStands n) (out-JMember x)
+
+-- The unit spells the tokens of a file. Each step to a part leaves a token behind, so that their number bounds the steps.
+pub record UnitSpells (unit : JUnit) (text : Tokens) : Type 0 where
+  pub stands : AllByRecursion (FileStands (length text)) unit.types
+  pub same : unit_tokens unit ≡ text
