@@ -1,3 +1,4 @@
 pub mod Tokens
 pub mod Levels
+pub mod Cutting
 pub mod Standing

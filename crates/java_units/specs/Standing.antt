@@ -96,9 +96,17 @@ spans (Token.ArrowBody at body ∷ ts) = true ∷ spans ts
 spans (Token.CloseBody at body ∷ ts) = false ∷ spans ts
 spans (t ∷ ts) = spans ts
 
--- Each body is that of a span, and the spans count the tokens of the head.
+-- of each span, how many tokens it counts
+abbrev pub counts : Tokens → List ℕ
+counts [] = []
+counts (Token.ArrowBody at body ∷ ts) = (body.to - body.from) ∷ counts ts
+counts (Token.CloseBody at body ∷ ts) = (body.to - body.from) ∷ counts ts
+counts (t ∷ ts) = counts ts
+
+-- Each body is that of a span and has as many tokens as it counts, and the spans count the tokens of the head.
 pub record AreBodies (text : Tokens) (bodies : List JBody) : Type 0 where
   pub each : map is_block bodies ≡ spans text
+  pub counted : map length (map body_tokens bodies) ≡ counts text
   pub numbered : text ≡ pieces (length (filled text (map body_tokens bodies))) (filled text (map body_tokens bodies))
 
 pub data Node : Type 0 where
@@ -110,7 +118,7 @@ pub data Node : Type 0 where
 -- Each body stands as deep as its level leaves room, where what holds it may be suc d deep.
 abbrev pub bodies_stand : (ℕ → Node → Type 0) → ℕ → Levels → List JBody → Type 0
 bodies_stand P d levels [] = Unit {0}
-bodies_stand P d [] (x ∷ xs) = Unit {0}
+bodies_stand P d [] (x ∷ xs) = ⊥
 bodies_stand P d (level ∷ levels) (x ∷ xs) = P (suc (suc d) - level) (Node.Body x) × bodies_stand P d levels xs
 
 pub record HeadStands (P : ℕ → Node → Type 0) (d : ℕ) (text : Tokens) (levels : Levels) (bodies : List JBody) : Type 0 where
