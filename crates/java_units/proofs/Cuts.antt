@@ -159,10 +159,20 @@ pub record Joint (x : Token) (span : Span) : Type 0 where
   pub filled : (ts b : Tokens) (bs : List Tokens) → filled (with_span x span ∷ ts) (b ∷ bs) ≡ x ∷ left span.opens ∷ (b ++ right span.closes ∷ filled ts bs)
   pub counts : (ts : Tokens) → counts (with_span x span ∷ ts) ≡ (span.to - span.from) ∷ counts ts
   pub behind : (e : ℕ) (ts : Tokens) → behind x e ts ≡ body e ts
+  pub raw : is_raw x ≡ true
+  pub weight : (stop : Stop) → token_weight x stop ≡ token_weight (with_span x span) stop
+  pub differs : x ≡ with_span x span → ⊥
+  pub same : (other : Span) → with_span x other ≡ with_span x span → other ≡ span
+
+arrow_joint : (at : Position) (span : Span) → Joint (Token.Sign m.Arrow at) span
+arrow_joint at span = record { filled = λ ts b bs. refl; counts = λ ts. refl; behind = λ e ts. refl; raw = refl; weight = λ stop. refl; differs = λ h. cc h; same = λ other h. cc h }
+
+close_joint : (at : Position) (span : Span) → Joint (Token.Sign m.CloseRound at) span
+close_joint at span = record { filled = λ ts b bs. refl; counts = λ ts. refl; behind = λ e ts. refl; raw = refl; weight = λ stop. refl; differs = λ h. cc h; same = λ other h. cc h }
 
 joint : (x : Token) (e : ℕ) (ts : Tokens) (b : Span × Tokens) → behind x e ts ≡ Some b → Joint x b.0
-joint (Token.Sign m.Arrow at) e ts b h = record { filled = λ ts b bs. refl; counts = λ ts. refl; behind = λ e ts. refl }
-joint (Token.Sign m.CloseRound at) e ts b h = record { filled = λ ts b bs. refl; counts = λ ts. refl; behind = λ e ts. refl }
+joint (Token.Sign m.Arrow at) e ts b h = arrow_joint at b.0
+joint (Token.Sign m.CloseRound at) e ts b h = close_joint at b.0
 joint _ e ts b h = absurd (cc h)
 
 -- ---- what is cut off
@@ -245,3 +255,260 @@ cut_sound stop (suc f) end n (x ∷ ts) c within e = elim (maybe_is (turn (token
 
 pub cut_is : (stop : Stop) (ts : Tokens) (c : Cut) → cut stop ts ≡ Some c → CutIs (length ts) ts c
 cut_is stop ts c e = cut_sound stop (length ts) (length ts) 0 ts c (omega arith) e
+
+-- ---- a head is cut off before what ends it
+
+abbrev pub is_open : Token → Bool
+is_open (Token.Sign m.OpenCurly at) = true
+is_open _ = false
+
+abbrev pub walk_step : Bool → Option ℕ → (ℕ → Option ℕ) → Option ℕ
+walk_step true k go = None
+walk_step false k go = k >>= go
+
+-- How many are open behind the tokens, where n are before, and the flag says whether a `{` would open a body. None where a
+-- token ends the head, or a body opens that isn't counted with the token before it.
+unfoldable pub walk : Stop → ℕ → Bool → Tokens → Option ℕ
+walk stop n flag [] = Some n
+walk stop n flag (x ∷ ts) = walk_step (is_open x && flag) (turn (token_weight x stop) n) (λ k. walk stop k (joins_next x) ts)
+
+pub record Ends (stop : Stop) (ts : Tokens) : Type 0 where
+  pub head : Token
+  pub tail : Tokens
+  pub is : ts ≡ head ∷ tail
+  pub closes : token_weight head stop ≡ Weight.Closes
+
+step_next : (b : Bool) (o : Option ℕ) (go : ℕ → Option ℕ) (k : ℕ) → walk_step b o go ≡ Some k → (b ≡ false) × (j : ℕ) × (o ≡ Some j) × (go j ≡ Some k)
+step_next true o go k h = absurd (cc h)
+step_next false o go k h = let a = bind_some o go k h in (refl, a.0, a.1, a.2)
+
+walk_next : (stop : Stop) (n : ℕ) (flag : Bool) (x : Token) (ts : Tokens) (k : ℕ) → walk stop n flag (x ∷ ts) ≡ Some k
+    → ((is_open x && flag) ≡ false) × (j : ℕ) × (turn (token_weight x stop) n ≡ Some j) × (walk stop j (joins_next x) ts ≡ Some k)
+unfolding walk
+walk_next stop n flag x ts k h = step_next (is_open x && flag) (turn (token_weight x stop) n) (λ j. walk stop j (joins_next x) ts) k h
+
+walk_end : (stop : Stop) (n : ℕ) (flag : Bool) (k : ℕ) → walk stop n flag [] ≡ Some k → n ≡ k
+unfolding walk
+walk_end stop n flag k h = cc h
+
+-- what a token that isn't raw, or one that is, begins with
+first_filled : (x : Token) (ts : Tokens) (bs : List Tokens) (rest : Tokens) → map length bs ≡ counts (x ∷ ts) → begins_curly (filled (x ∷ ts) bs ++ rest) ≡ is_open x
+first_filled (Token.ArrowBody at s) ts [] rest c = refl
+first_filled (Token.ArrowBody at s) ts (b ∷ bs) rest c = refl
+first_filled (Token.CloseBody at s) ts [] rest c = refl
+first_filled (Token.CloseBody at s) ts (b ∷ bs) rest c = refl
+first_filled (Token.Sign m.OpenCurly at) ts bs rest c = refl
+first_filled (Token.Sign _ at) ts bs rest c = refl
+first_filled (Token.Word word at) ts bs rest c = refl
+first_filled (Token.Id n at) ts bs rest c = refl
+first_filled (Token.Literal x at) ts bs rest c = refl
+
+closing_curly : (stop : Stop) (x : Token) (ts : Tokens) → token_weight x stop ≡ Weight.Closes → begins_curly (x ∷ ts) ≡ false
+closing_curly Stop.Constants (Token.Sign m.OpenCurly at) ts h = absurd (cc h)
+closing_curly _ (Token.Sign m.OpenCurly at) ts h = absurd (cc h)
+closing_curly stop _ ts h = refl
+
+end_curly : (stop : Stop) (ts : Tokens) → Ends stop ts → begins_curly ts ≡ false
+end_curly stop ts e = subst (λ l. begins_curly l ≡ false) (sym e.is) (closing_curly stop e.head e.tail e.closes)
+
+and_true : (b : Bool) → (b && true) ≡ false → b ≡ false
+and_true true h = absurd (cc h)
+and_true false h = refl
+
+-- no `{` follows where it would open a body that isn't counted
+unjoined : (stop : Stop) (j : ℕ) (x : Token) (text : Tokens) (bs : List Tokens) (rest : Tokens) (k : ℕ) → walk stop j (joins_next x) text ≡ Some k → Ends stop rest
+    → map length bs ≡ counts text → (joins_next x && begins_curly (filled text bs ++ rest)) ≡ false
+unjoined stop j x text bs rest k h e c = by (joins_next x) h
+  where
+    follows : (text : Tokens) → map length bs ≡ counts text → walk stop j true text ≡ Some k → begins_curly (filled text bs ++ rest) ≡ false
+    follows [] c h = end_curly stop rest e
+    follows (y ∷ ts) c h = first_filled y ts bs rest c ∙ and_true (is_open y) (walk_next stop j true y ts k h).0
+    by : (b : Bool) → walk stop j b text ≡ Some k → (b && begins_curly (filled text bs ++ rest)) ≡ false
+    by true h = follows text c h
+    by false h = refl
+
+no_counts : (bs : List Tokens) → map length bs ≡ [] → bs ≡ []
+no_counts [] h = refl
+no_counts (b ∷ bs) h = absurd (cc h)
+
+abbrev cutting : Tokens → List Tokens → Tokens → Cut
+cutting text bodies rest = record { text = text; bodies = bodies; rest = rest }
+
+turned : (stop : Stop) (f end n j : ℕ) (x : Token) (ts : Tokens) → is_raw x ≡ true → turn (token_weight x stop) n ≡ Some j
+    → cut_by stop (suc f) end n (x ∷ ts) ≡ cut_step x ts (behind x end ts) (cut_by stop f end j)
+unfolding cut_by
+turned stop f end n j x ts raw t = rw (t, raw) refl
+
+ended : (stop : Stop) (f end : ℕ) (ts : Tokens) → Ends stop ts → cut_by stop (suc f) end 0 ts ≡ Some (cutting [] [] ts)
+unfolding cut_by
+ended stop f end ts e = subst (λ l. cut_by stop (suc f) end 0 l ≡ Some (cutting [] [] l)) (sym e.is) (rw e.closes refl)
+
+raw_none : (e : ℕ) (x : Token) (ts us : Tokens) (o : Option (Span × Tokens)) → is_raw x ≡ true → behind x e ts ≡ o → pieces e (x ∷ ts) ≡ x ∷ us → pieces e ts ≡ us
+raw_none e x ts us None raw h p = let q = sym (pieces_by e x ts None h) ∙ p in cc q
+raw_none e (Token.Sign m.Arrow at) ts us (Some b) raw h p = let q = sym (pieces_by e (Token.Sign m.Arrow at) ts (Some b) h) ∙ p in absurd (cc q)
+raw_none e (Token.Sign m.CloseRound at) ts us (Some b) raw h p = let q = sym (pieces_by e (Token.Sign m.CloseRound at) ts (Some b) h) ∙ p in absurd (cc q)
+raw_none e _ ts us (Some b) raw h p = absurd (cc h)
+
+same_front : (a b c d : Tokens) → length a ≡ length b → a ++ c ≡ b ++ d → (a ≡ b) × (c ≡ d)
+same_front [] [] c d l h = (refl, h)
+same_front [] (y ∷ b) c d l h = absurd (omega (arith, l))
+same_front (x ∷ a) [] c d l h = absurd (omega (arith, l))
+same_front (x ∷ a) (y ∷ b) c d l h =
+    let head : x ≡ y = cc h in
+    let i = same_front a b c d (omega (arith, l)) (cc h) in
+    (ap (λ z. z ∷ a) head ∙ ap (λ (r : Tokens). y ∷ r) i.0, i.1)
+
+body_step : (stop : Stop) (f end n j : ℕ) (x : Token) (ts : Tokens) (b : Span × Tokens) (c : Cut) → is_raw x ≡ true → turn (token_weight x stop) n ≡ Some j → behind x end ts ≡ Some b
+    → cut_by stop f end j b.1 ≡ Some c → cut_by stop (suc f) end n (x ∷ ts) ≡ Some (cutting (with_span x b.0 ∷ c.text) (take (b.0.to - b.0.from) (drop 1 ts) ∷ c.bodies) c.rest)
+body_step stop f end n j x ts b c raw t h go = turned stop f end n j x ts raw t ∙ rw (h, go) refl
+
+-- the body that is counted is the one that stands there
+record Stood (e : ℕ) (span : Span) (b rest us : Tokens) : Type 0 where
+  closes : (z : Tokens) → from_closing 0 (b ++ right span.closes ∷ z) ≡ right span.closes ∷ z
+  from : span.from ≡ e - (length b + suc (length rest))
+  to : span.to ≡ e - suc (length rest)
+  further : pieces e rest ≡ us
+
+stood_by : (e : ℕ) (x : Token) (span : Span) (b rest us : Tokens) → Joint x span → length b ≡ span.to - span.from → suc (length b + suc (length rest)) ≤ e
+    → (o : Option (Span × Tokens)) → body e (left span.opens ∷ (b ++ right span.closes ∷ rest)) ≡ o
+    → pieces e (x ∷ left span.opens ∷ (b ++ right span.closes ∷ rest)) ≡ with_span x span ∷ us → Stood e span b rest us
+stood_by e x span b rest us j many within None h p =
+    let whole : Tokens = left span.opens ∷ (b ++ right span.closes ∷ rest) in
+    let q : x ∷ pieces e whole ≡ with_span x span ∷ us = sym (pieces_by e x whole None (j.behind e whole ∙ h)) ∙ p in
+    absurd (j.differs (cc q))
+stood_by e x span b rest us j many within (Some found_there) h p =
+    let whole : Tokens = left span.opens ∷ (b ++ right span.closes ∷ rest) in
+    let q : with_span x found_there.0 ∷ pieces e found_there.1 ≡ with_span x span ∷ us = sym (pieces_by e x whole (Some found_there) (j.behind e whole ∙ h)) ∙ p in
+    let s : found_there.0 ≡ span = j.same found_there.0 (cc q) in
+    let more : pieces e found_there.1 ≡ us = cc q in
+    let P : Span → Type 0 = λ s. Found e whole s found_there.1 in
+    let k : Found e whole span found_there.1 = subst P s (found e whole found_there.0 found_there.1 h) in
+    let inside : k.mid ++ right span.closes ∷ found_there.1 ≡ b ++ right span.closes ∷ rest = let z = k.is in cc z in
+    let l1 = length-append k.mid (right span.closes ∷ found_there.1) in
+    let l2 = length-append b (right span.closes ∷ rest) in
+    let l3 = ap length inside in
+    let f = k.from in
+    let t = k.to in
+    let long : length k.mid ≡ length b = omega (arith, l1, l2, l3, f, t, many, within) in
+    let i = same_front k.mid b (right span.closes ∷ found_there.1) (right span.closes ∷ rest) long inside in
+    let r : found_there.1 ≡ rest = let z = i.1 in cc z in
+    let lr = ap length r in
+    let Q : Tokens → Type 0 = λ mid. (z : Tokens) → from_closing 0 (mid ++ right span.closes ∷ z) ≡ right span.closes ∷ z in
+    record {
+      closes = subst Q i.0 k.closes;
+      from = omega (arith, f, long, lr);
+      to = omega (arith, t, lr);
+      further = ap (pieces e) (sym r) ∙ more;
+    }
+
+-- from a head to the same with a token more before it
+module _ (stop : Stop) (text : Tokens) (z more w : Tokens) (e end : ℕ) (ends : Ends stop (z ++ more)) (total : end ≡ e + length more) where
+  abbrev Again : ℕ → Bool → List Tokens → Type 0
+  Again n flag bs = (f : ℕ) → walk stop n flag text ≡ Some 0 → map length bs ≡ counts text → pieces e (filled text bs ++ z) ≡ text ++ w → length (filled text bs ++ z) ≤ e → suc (length text) ≤ f
+      → cut_by stop f end n (filled text bs ++ (z ++ more)) ≡ Some (cutting text bs (z ++ more))
+
+  raw_again : (x : Token) (n j : ℕ) (bs : List Tokens) (f : ℕ) → is_raw x ≡ true → Again j (joins_next x) bs
+      → turn (token_weight x stop) n ≡ Some j → walk stop j (joins_next x) text ≡ Some 0 → map length bs ≡ counts (x ∷ text) → pieces e (filled (x ∷ text) bs ++ z) ≡ x ∷ text ++ w
+      → length (filled (x ∷ text) bs ++ z) ≤ e → suc (length (x ∷ text)) ≤ suc f
+      → cut_by stop (suc f) end n (filled (x ∷ text) bs ++ (z ++ more)) ≡ Some (cutting (x ∷ text) bs (z ++ more))
+  raw_again x n j bs f raw go t h c p within enough =
+      let fill = filled_raw x text bs raw in
+      let counted : map length bs ≡ counts text = c ∙ counts_raw x text raw in
+      let q : pieces e (filled text bs ++ z) ≡ text ++ w =
+      raw_none e x (filled text bs ++ z) (text ++ w) (behind x e (filled text bs ++ z)) raw refl (ap (λ (l : Tokens). pieces e (l ++ z)) (sym fill) ∙ p) in
+      let long = ap (λ (l : Tokens). length (l ++ z)) fill in
+      let none : behind x end (filled text bs ++ (z ++ more)) ≡ None = no_behind x end (filled text bs ++ (z ++ more)) (unjoined stop j x text bs (z ++ more) 0 h ends counted) in
+      let i = go f h counted q (omega (arith, long, within)) (omega (arith, enough)) in
+      ap (λ (l : Tokens). cut_by stop (suc f) end n (l ++ (z ++ more))) fill
+      ∙ turned stop f end n j x (filled text bs ++ (z ++ more)) raw t
+      ∙ rw (none, i) refl
+
+  body_again : (x : Token) (span : Span) (n j : ℕ) (b : Tokens) (bs : List Tokens) (f : ℕ) → Joint x span → Again j false bs
+      → turn (token_weight (with_span x span) stop) n ≡ Some j → walk stop j false text ≡ Some 0 → map length (b ∷ bs) ≡ counts (with_span x span ∷ text)
+      → pieces e (filled (with_span x span ∷ text) (b ∷ bs) ++ z) ≡ with_span x span ∷ text ++ w
+      → length (filled (with_span x span ∷ text) (b ∷ bs) ++ z) ≤ e → suc (length (with_span x span ∷ text)) ≤ suc f
+      → cut_by stop (suc f) end n (filled (with_span x span ∷ text) (b ∷ bs) ++ (z ++ more)) ≡ Some (cutting (with_span x span ∷ text) (b ∷ bs) (z ++ more))
+  body_again x span n j b bs f joint go t h c p within enough =
+      let F : Tokens = filled text bs in
+      let closer : Token = right span.closes in
+      let flat : (us : Tokens) → filled (with_span x span ∷ text) (b ∷ bs) ++ us ≡ x ∷ left span.opens ∷ (b ++ closer ∷ (F ++ us)) = λ us.
+      ap (λ (l : Tokens). l ++ us) (joint.filled text b bs) ∙ ap (λ (l : Tokens). x ∷ left span.opens ∷ l) (append_assoc b (closer ∷ F) us) in
+      let counted : length b ∷ map length bs ≡ (span.to - span.from) ∷ counts text = c ∙ joint.counts text in
+      let many : length b ≡ span.to - span.from = cc counted in
+      let rest_counted : map length bs ≡ counts text = cc counted in
+      let l1 = ap length (flat z) in
+      let l2 = length-append b (closer ∷ (F ++ z)) in
+      let room : suc (length b + suc (length (F ++ z))) ≤ e = omega (arith, l1, l2, within) in
+      let stood = stood_by e x span b (F ++ z) (text ++ w) joint many room (body e (left span.opens ∷ (b ++ closer ∷ (F ++ z)))) refl (ap (pieces e) (sym (flat z)) ∙ p) in
+      let whole : Tokens = F ++ (z ++ more) in
+      let l3 = length-append (F ++ z) more in
+      let l4 = ap length (append_assoc F z more) in
+      let there : body end (left span.opens ∷ (b ++ closer ∷ whole)) ≡ Some (span, whole) =
+      body_is e end span b (F ++ z) whole stood.closes stood.from stood.to (omega (arith, room)) (omega (arith, l3, l4, total)) in
+      let i = go f h rest_counted stood.further (omega (arith, room)) (omega (arith, enough)) in
+      let inner : take (span.to - span.from) (b ++ closer ∷ whole) ≡ b = ap (λ k. take k (b ++ closer ∷ whole)) (sym many) ∙ take-append_seam b (closer ∷ whole) in
+      ap (cut_by stop (suc f) end n) (flat (z ++ more))
+      ∙ body_step stop f end n j x (left span.opens ∷ (b ++ closer ∷ whole)) (span, whole) (cutting text bs (z ++ more)) joint.raw (ap (λ k. turn k n) (joint.weight stop) ∙ t) (joint.behind end (left span.opens ∷ (b ++ closer ∷ whole)) ∙ there) i
+      ∙ ap (λ (l : Tokens). Option.Some (cutting (with_span x span ∷ text) (l ∷ bs) (z ++ more))) inner
+
+cut_again : (stop : Stop) (text : Tokens) (bs : List Tokens) (z more w : Tokens) (e end n : ℕ) (flag : Bool) (ends : Ends stop (z ++ more)) (total : end ≡ e + length more)
+    → Again stop text z more w e end ends total n flag bs
+cut_again stop [] bs z more w e end n flag ends total zero h c p within enough = absurd (omega (arith, enough))
+cut_again stop [] bs z more w e end n flag ends total (suc f) h c p within enough =
+    let none = no_counts bs c in
+    let start : n ≡ 0 = walk_end stop n flag 0 h in
+    ap (λ k. cut_by stop (suc f) end k (z ++ more)) start ∙ ended stop f end (z ++ more) ends ∙ ap (λ l. Option.Some (cutting [] l (z ++ more))) (sym none)
+cut_again stop (x ∷ text) bs z more w e end n flag ends total zero h c p within enough = absurd (omega (arith, enough))
+cut_again stop (Token.ArrowBody at span ∷ text) [] z more w e end n flag ends total (suc f) h c p within enough = absurd (cc c)
+cut_again stop (Token.CloseBody at span ∷ text) [] z more w e end n flag ends total (suc f) h c p within enough = absurd (cc c)
+cut_again stop (Token.ArrowBody at span ∷ text) (b ∷ bs) z more w e end n flag ends total (suc f) h c p within enough =
+    let i = walk_next stop n flag (Token.ArrowBody at span) text 0 h in
+    body_again stop text z more w e end ends total (Token.Sign m.Arrow at) span n i.1 b bs f (arrow_joint at span) (cut_again stop text bs z more w e end i.1 false ends total) i.2 i.3 c p within enough
+cut_again stop (Token.CloseBody at span ∷ text) (b ∷ bs) z more w e end n flag ends total (suc f) h c p within enough =
+    let i = walk_next stop n flag (Token.CloseBody at span) text 0 h in
+    body_again stop text z more w e end ends total (Token.Sign m.CloseRound at) span n i.1 b bs f (close_joint at span) (cut_again stop text bs z more w e end i.1 false ends total) i.2 i.3 c p within enough
+cut_again stop (Token.Sign mark at ∷ text) bs z more w e end n flag ends total (suc f) h c p within enough =
+    let x : Token = Token.Sign mark at in
+    let i = walk_next stop n flag x text 0 h in
+    raw_again stop text z more w e end ends total x n i.1 bs f refl (cut_again stop text bs z more w e end i.1 (joins_next x) ends total) i.2 i.3 c p within enough
+cut_again stop (Token.Word word at ∷ text) bs z more w e end n flag ends total (suc f) h c p within enough =
+    let x : Token = Token.Word word at in
+    let i = walk_next stop n flag x text 0 h in
+    raw_again stop text z more w e end ends total x n i.1 bs f refl (cut_again stop text bs z more w e end i.1 (joins_next x) ends total) i.2 i.3 c p within enough
+cut_again stop (Token.Id name at ∷ text) bs z more w e end n flag ends total (suc f) h c p within enough =
+    let x : Token = Token.Id name at in
+    let i = walk_next stop n flag x text 0 h in
+    raw_again stop text z more w e end ends total x n i.1 bs f refl (cut_again stop text bs z more w e end i.1 (joins_next x) ends total) i.2 i.3 c p within enough
+cut_again stop (Token.Literal literal at ∷ text) bs z more w e end n flag ends total (suc f) h c p within enough =
+    let x : Token = Token.Literal literal at in
+    let i = walk_next stop n flag x text 0 h in
+    raw_again stop text z more w e end ends total x n i.1 bs f refl (cut_again stop text bs z more w e end i.1 (joins_next x) ends total) i.2 i.3 c p within enough
+
+filled_longer : (text : Tokens) (bs : List Tokens) → length text ≤ length (filled text bs)
+filled_longer [] bs = omega arith
+filled_longer (Token.ArrowBody at span ∷ text) [] = let e = filled_longer text [] in omega (arith, e)
+filled_longer (Token.CloseBody at span ∷ text) [] = let e = filled_longer text [] in omega (arith, e)
+filled_longer (Token.ArrowBody at span ∷ text) (b ∷ bs) =
+    let e = filled_longer text bs in
+    let l = length-append b (right span.closes ∷ filled text bs) in
+    omega (arith, e, l)
+filled_longer (Token.CloseBody at span ∷ text) (b ∷ bs) =
+    let e = filled_longer text bs in
+    let l = length-append b (right span.closes ∷ filled text bs) in
+    omega (arith, e, l)
+filled_longer (Token.Sign mark at ∷ text) bs = let e = filled_longer text bs in omega (arith, e)
+filled_longer (Token.Word word at ∷ text) bs = let e = filled_longer text bs in omega (arith, e)
+filled_longer (Token.Id n at ∷ text) bs = let e = filled_longer text bs in omega (arith, e)
+filled_longer (Token.Literal x at ∷ text) bs = let e = filled_longer text bs in omega (arith, e)
+
+pub cut_kept : (stop : Stop) (text : Tokens) (bs : List Tokens) (z more w : Tokens) → walk stop 0 false text ≡ Some 0 → Ends stop (z ++ more) → map length bs ≡ counts text
+    → pieces (length (filled text bs ++ z)) (filled text bs ++ z) ≡ text ++ w
+    → cut stop (filled text bs ++ (z ++ more)) ≡ Some (record { text = text; bodies = bs; rest = z ++ more })
+cut_kept stop text bs z more w h ends c p =
+    let l1 = ap length (append_assoc (filled text bs) z more) in
+    let l2 = length-append (filled text bs ++ z) more in
+    let l3 = length-append (filled text bs) (z ++ more) in
+    let l4 = filled_longer text bs in
+    let l5 = ap length ends.is in
+    let whole : ℕ = length (filled text bs ++ (z ++ more)) in
+    cut_again stop text bs z more w (length (filled text bs ++ z)) whole 0 false ends (omega (arith, l1, l2)) whole h c p (omega arith) (omega (arith, l3, l4, l5))
