@@ -2,3 +2,4 @@ pub mod Tokens
 pub mod Levels
 pub mod Cutting
 pub mod Standing
+pub mod Reading

@@ -160,6 +160,15 @@ constants_stand P (kind.Enum mods at n nat faces) None bodies = ⊥
 constants_stand P _ None bodies = bodies ≡ []
 constants_stand P _ (Some x) bodies = ⊥
 
+-- Members follow the constants of an enum only behind a `;`.
+abbrev pub follow_end : Option Position → List JMember → Type 0
+follow_end None members = members ≡ []
+follow_end (Some at) members = Unit {0}
+
+abbrev pub follow : Option JConstants → List JMember → Type 0
+follow None members = Unit {0}
+follow (Some x) members = follow_end x.end members
+
 module _ (P : ℕ → Node → Type 0) (d : ℕ) where
   abbrev pub body_stands : JBody-F JBody JMember JStatement JCase JCaseGroup JCatch → Type 0
   body_stands (JBody-F.Statements xs) = all_stand P d Role.Inner xs
@@ -206,7 +215,7 @@ module _ (P : ℕ → Node → Type 0) (d : ℕ) where
       (member_fits owner false head ≡ true) × MemberStands d d head × HeadStands P d (member_tokens head) (member_levels head) bodies
   member_stands owner (JMember-F.Bodied head left xs right) = (member_fits owner true head ≡ true) × MemberStands d d head × member_block P d head xs
   member_stands owner (JMember-F.Type head left constants bodies members right) =
-      (type_fits (home_of owner) head ≡ true) × TypeHeadStands d head × constants_stand P head constants bodies
+      (type_fits (home_of owner) head ≡ true) × TypeHeadStands d head × constants_stand P head constants bodies × follow constants members
       × AllByRecursion (λ x. P d (Node.Member (owner_of head) x)) members
 
 abbrev pub node_stands : (ℕ → Node → Type 0) → ℕ → Node → Type 0
@@ -233,7 +242,8 @@ top_levels _ = []
 module _ (P : ℕ → Node → Type 0) (Q : Owner → JMember → Type 0) where
   abbrev pub type_stands : JHome → JTypeHead → Option JConstants → List JBody → List JMember → Type 0
   type_stands place head constants bodies members =
-      (type_fits place head ≡ true) × TypeHeadStands max_depth head × constants_stand P head constants bodies × AllByRecursion (Q (owner_of head)) members
+      (type_fits place head ≡ true) × TypeHeadStands max_depth head × constants_stand P head constants bodies × follow constants members
+      × AllByRecursion (Q (owner_of head)) members
 
   abbrev pub top_stands : Owner → JMember-F JBody JMember JStatement JCase JCaseGroup JCatch → Type 0
   top_stands owner (JMember-F.Declared head bodies end) =
