@@ -1,5 +1,5 @@
 -- What is read is spelled so, and stands.
-use Rattle.std.proofs.Common.{◌≡◌, ◌≤◌, ◌-◌, ℕ, zero, suc, Bool, true, false, if◌then◌else◌, List, [], ◌∷◌, ◌++◌, length, map, Option, Some, None, inl, inr, refl, ap, sym, ◌∙◌, subst, append_assoc, arith}
+use Rattle.std.proofs.Common.{◌≡◌, ◌≤◌, ◌-◌, ℕ, zero, suc, Bool, true, false, not, if◌then◌else◌, List, [], ◌∷◌, ◌++◌, length, map, Option, Some, None, inl, inr, refl, ap, sym, ◌∙◌, subst, append_assoc, arith}
 use Rattle.std.specs.List.{AllByRecursion}
 use Rattle.std.proofs.lemmas.List.{append-nil, length-append, length-map}
 use Rattle.java_tree.specs.declared.tokens.Position.{Position}
@@ -346,3 +346,230 @@ module _ (P : ℕ → Node → Type 0) (R : r.Readers) (S : Sounds P R) (d : ℕ
       (st.rolls-If at x.opens x.head x.bodies x.closes then_) (tokens_If at x.opens x.head x.bodies x.closes then_)
       (behind_head (Token.Word w.If at) ts x.opens text x.closes _ (statement_tokens then_) us i.same refl)
       ((i.head, i.bodies), good) (λ h. refl))
+
+  if_sound : (place : Role) (at : Position) (ts : Tokens) (y : JStatement × Tokens) → r.if_read R d at ts ≡ Some y → StatementIs (node_stands P d) place (Token.Word w.If at ∷ ts) y
+  unfolding r.if_read
+  if_sound place at ts y e =
+      let a = bind_some (r.condition R d ts) _ _ e in
+      let b = bind_some (R.statement d Role.Sole a.0.1) _ _ a.2 in
+      let i = condition_sound ts a.0 a.1 in
+      let j = S.statement d Role.Sole a.0.1 b.0 b.1 in
+      let K : Tokens → Type 0 = λ l. RoundedIs P R S JExpr tokens (Stands d any_level) r.condition_levels d ts (a.0.0, l) in
+      if_end_sound place at a.0.0 ts b.0.1 b.0.0 y (subst K j.same i) j.stands j.shut b.2
+
+  while_sound : (place : Role) (at : Position) (ts : Tokens) (y : JStatement × Tokens) → r.while_read R d at ts ≡ Some y → StatementIs (node_stands P d) place (Token.Word w.While at ∷ ts) y
+  unfolding r.while_read
+  while_sound place at ts y e =
+      let a = bind_some (r.condition R d ts) _ _ e in
+      let b = bind_some (R.statement d Role.Sole a.0.1) _ _ a.2 in
+      let i = condition_sound ts a.0 a.1 in
+      let j = S.statement d Role.Sole a.0.1 b.0 b.1 in
+      let x = a.0.0 in
+      subst (StatementIs (node_stands P d) place (Token.Word w.While at ∷ ts)) (some_same b.2)
+      (made place (JStatement-F.While at x.opens x.head x.bodies x.closes b.0.0) _ _ b.0.1 (headed (Token.Word w.While at) x.opens (filled (tokens x.head) (map body_tokens x.bodies)) x.closes (statement_tokens b.0.0))
+      (st.rolls-While at x.opens x.head x.bodies x.closes b.0.0) (tokens_While at x.opens x.head x.bodies x.closes b.0.0)
+      (behind_head (Token.Word w.While at) ts x.opens (filled (tokens x.head) (map body_tokens x.bodies)) x.closes a.0.1 (statement_tokens b.0.0) b.0.1 i.same j.same)
+      ((i.head, i.bodies), j.stands) (λ h. j.shut (sym (open_While at x.opens x.head x.bodies x.closes b.0.0) ∙ h)))
+
+  loop_sound : (place : Role) (at : Position) (ts : Tokens) (y : JStatement × Tokens) → r.loop_read R d at ts ≡ Some y → StatementIs (node_stands P d) place (Token.Word w.For at ∷ ts) y
+  unfolding r.loop_read
+  loop_sound place at ts y e =
+      let a = bind_some (r.rounded R.body d (for_read d) for_levels ts) _ _ e in
+      let b = bind_some (R.statement d Role.Sole a.0.1) _ _ a.2 in
+      let i = rounded_sound P R S JForHead for_tokens (ForStands d) for_levels d (for_read d) (for_is_spelled d) ts a.0 a.1 in
+      let j = S.statement d Role.Sole a.0.1 b.0 b.1 in
+      let x = a.0.0 in
+      subst (StatementIs (node_stands P d) place (Token.Word w.For at ∷ ts)) (some_same b.2)
+      (made place (JStatement-F.For at x.opens x.head x.bodies x.closes b.0.0) _ _ b.0.1 (headed (Token.Word w.For at) x.opens (filled (for_tokens x.head) (map body_tokens x.bodies)) x.closes (statement_tokens b.0.0))
+      (st.rolls-For at x.opens x.head x.bodies x.closes b.0.0) (tokens_For at x.opens x.head x.bodies x.closes b.0.0)
+      (behind_head (Token.Word w.For at) ts x.opens (filled (for_tokens x.head) (map body_tokens x.bodies)) x.closes a.0.1 (statement_tokens b.0.0) b.0.1 i.same j.same)
+      (i.head, i.bodies, j.stands) (λ h. j.shut (sym (open_For at x.opens x.head x.bodies x.closes b.0.0) ∙ h)))
+
+  do_sound : (place : Role) (at : Position) (ts : Tokens) (y : JStatement × Tokens) → r.do_read R d at ts ≡ Some y → StatementIs (node_stands P d) place (Token.Word w.Do at ∷ ts) y
+  unfolding r.do_read
+  do_sound place at ts y e =
+      let b = bind_some (R.statement d Role.Sole ts) _ _ e in
+      let c = bind_some (r.while_word b.0.1) _ _ b.2 in
+      let a = bind_some (r.condition R d c.0.1) _ _ c.2 in
+      let g = bind_some (semicolon a.0.1) _ _ a.2 in
+      let j = S.statement d Role.Sole ts b.0 b.1 in
+      let i = condition_sound c.0.1 a.0 a.1 in
+      let x = a.0.0 in
+      let text : Tokens = filled (tokens x.head) (map body_tokens x.bodies) in
+      let tail : Tokens = headed (Token.Word w.While c.0.0) x.opens text x.closes (Token.Sign m.Semicolon g.0.0 ∷ []) in
+      let behind : b.0.1 ≡ tail ++ g.0.1 =
+      while_only b.0.1 c.0 c.1 ∙ behind_head (Token.Word w.While c.0.0) c.0.1 x.opens text x.closes a.0.1 (Token.Sign m.Semicolon g.0.0 ∷ []) g.0.1 i.same (semicolon_only a.0.1 g.0 g.1) in
+      subst (StatementIs (node_stands P d) place (Token.Word w.Do at ∷ ts)) (some_same g.2)
+      (made place (JStatement-F.Do at b.0.0 c.0.0 x.opens x.head x.bodies x.closes g.0.0) _ _ g.0.1 (Token.Word w.Do at ∷ (statement_tokens b.0.0 ++ tail))
+      (st.rolls-Do at b.0.0 c.0.0 x.opens x.head x.bodies x.closes g.0.0) (tokens_Do at b.0.0 c.0.0 x.opens x.head x.bodies x.closes g.0.0)
+      (ap (λ (l : Tokens). Token.Word w.Do at ∷ l) (j.same ∙ ap (λ (l : Tokens). statement_tokens b.0.0 ++ l) behind ∙ sym (append_assoc (statement_tokens b.0.0) tail g.0.1)))
+      (j.stands, (i.head, i.bodies)) (never _ g.0.1 (open_Do at b.0.0 c.0.0 x.opens x.head x.bodies x.closes g.0.0)))
+
+  abbrev pub GroupStands : JCaseGroup → Type 0
+  GroupStands x = group_stands P d (out-JCaseGroup x)
+
+  abbrev pub CatchStands : JCatch → Type 0
+  CatchStands x = catch_stands P d (out-JCatch x)
+
+  -- where a `case` or `default` comes first there is a label
+  some_label : (n : ℕ) (ts : Tokens) (y : List JCase × Tokens) → r.begins_case ts ≡ true → r.many r.no_case (R.label d) n ts ≡ Some y → 1 ≤ length y.0
+  unfolding r.many
+  some_label zero ts y h e = let g = guard_some (r.no_case ts) _ y e in let k : false ≡ true = ap not (sym h) ∙ g.0 in absurd (cc k)
+  some_label (suc n) ts y h e = elim (cond_is (r.no_case ts) _ _ _ e) [
+    | inl g ↦ let k : false ≡ true = ap not (sym h) ∙ g.0 in absurd (cc k)
+    | inr g ↦
+        let a = bind_some (R.label d ts) _ _ g.1 in
+        let b = bind_some (r.many r.no_case (R.label d) n a.0.1) _ _ a.2 in
+        let l = ap (λ (z : List JCase × Tokens). length z.0) (some_same b.2) in
+        omega (arith, l)
+  ]
+
+  group_sound : (ts : Tokens) (y : JCaseGroup × Tokens) → r.group_read R d ts ≡ Some y → (ts ≡ group_tokens y.0 ++ y.1) × GroupStands y.0
+  unfolding r.group_read
+  group_sound ts y e =
+      let g = guard_some (r.begins_case ts) _ y e in
+      let a = bind_some (r.until r.no_case (R.label d) ts) _ _ g.1 in
+      let b = bind_some (r.until r.ends_group (R.statement d Role.Inner) a.0.1) _ _ a.2 in
+      let i = (many_sound JCase case_tokens (λ x. P d (Node.Case x)) r.no_case (R.label d) (S.label d) (length ts) ts a.0 a.1).many in
+      let j = (many_sound JStatement statement_tokens (λ x. P d (Node.Statement Role.Inner x)) r.ends_group (R.statement d Role.Inner)
+      (λ ts y h. let i = S.statement d Role.Inner ts y h in (i.same, i.stands)) (length a.0.1) a.0.1 b.0 b.1).many in
+      let layer : JCaseGroup-F JBody JMember JStatement JCase JCaseGroup JCatch = record { labels = a.0.0; statements = b.0.0 } in
+      let Q : JCaseGroup × Tokens → Type 0 = λ y. (ts ≡ group_tokens y.0 ++ y.1) × GroupStands y.0 in
+      let G : JCaseGroup-F JBody JMember JStatement JCase JCaseGroup JCatch → Type 0 = λ l. group_stands P d l in
+      subst Q (some_same b.2) (
+        i.same ∙ ap (λ (l : Tokens). joined (map case_tokens a.0.0) ++ l) j.same ∙ sym (append_assoc (joined (map case_tokens a.0.0)) (joined (map statement_tokens b.0.0)) b.0.1)
+        ∙ ap (λ (l : Tokens). l ++ b.0.1) (sym (tokens_CaseGroup layer)),
+        subst G (sym (out-roll-JCaseGroup layer)) (some_label (length ts) ts a.0 g.0 a.1, i.all, j.all),
+      )
+
+  switch_sound : (place : Role) (at : Position) (ts : Tokens) (y : JStatement × Tokens) → r.switch_statement R d at ts ≡ Some y → StatementIs (node_stands P d) place (Token.Word w.Switch at ∷ ts) y
+  unfolding r.switch_statement
+  switch_sound place at ts y e =
+      let a = bind_some (r.condition R d ts) _ _ e in
+      let b = bind_some (r.braced (r.until r.begins_close (r.group_read R d)) a.0.1) _ _ a.2 in
+      let i = condition_sound ts a.0 a.1 in
+      let j = braced_sound JCaseGroup group_tokens GroupStands (r.until r.begins_close (r.group_read R d))
+      (λ ts y h. (many_sound JCaseGroup group_tokens GroupStands r.begins_close (r.group_read R d) group_sound (length ts) ts y h).many) a.0.1 b.0 b.1 in
+      let x = a.0.0 in
+      let z = b.0.0 in
+      subst (StatementIs (node_stands P d) place (Token.Word w.Switch at ∷ ts)) (some_same b.2)
+      (made place (JStatement-F.Switch at x.opens x.head x.bodies x.closes z.opens z.items z.closes) _ _ b.0.1
+      (headed (Token.Word w.Switch at) x.opens (filled (tokens x.head) (map body_tokens x.bodies)) x.closes (braced z.opens (map group_tokens z.items) z.closes))
+      (st.rolls-Switch at x.opens x.head x.bodies x.closes z.opens z.items z.closes) (tokens_Switch at x.opens x.head x.bodies x.closes z.opens z.items z.closes)
+      (behind_head (Token.Word w.Switch at) ts x.opens (filled (tokens x.head) (map body_tokens x.bodies)) x.closes a.0.1 (braced z.opens (map group_tokens z.items) z.closes) b.0.1 i.same j.same)
+      ((i.head, i.bodies), j.all) (never _ b.0.1 (open_Switch at x.opens x.head x.bodies x.closes z.opens z.items z.closes)))
+
+  synchronized_sound : (place : Role) (at : Position) (ts : Tokens) (y : JStatement × Tokens) → r.synchronized R d at ts ≡ Some y
+      → StatementIs (node_stands P d) place (Token.Word w.Synchronized at ∷ ts) y
+  unfolding r.synchronized
+  synchronized_sound place at ts y e =
+      let a = bind_some (r.rounded R.body d (lock_read d) lock_levels ts) _ _ e in
+      let b = bind_some (r.block R d a.0.1) _ _ a.2 in
+      let i = rounded_sound P R S JLock lock_tokens (LockStands d) lock_levels d (lock_read d) (lock_is_spelled d) ts a.0 a.1 in
+      let j = block_sound d a.0.1 b.0 b.1 in
+      let x = a.0.0 in
+      let z = b.0.0 in
+      subst (StatementIs (node_stands P d) place (Token.Word w.Synchronized at ∷ ts)) (some_same b.2)
+      (made place (JStatement-F.Synchronized at x.opens x.head x.bodies x.closes z.opens z.items z.closes) _ _ b.0.1
+      (headed (Token.Word w.Synchronized at) x.opens (filled (lock_tokens x.head) (map body_tokens x.bodies)) x.closes (braced z.opens (map statement_tokens z.items) z.closes))
+      (st.rolls-Synchronized at x.opens x.head x.bodies x.closes z.opens z.items z.closes) (tokens_Synchronized at x.opens x.head x.bodies x.closes z.opens z.items z.closes)
+      (behind_head (Token.Word w.Synchronized at) ts x.opens (filled (lock_tokens x.head) (map body_tokens x.bodies)) x.closes a.0.1 (braced z.opens (map statement_tokens z.items) z.closes) b.0.1 i.same j.same)
+      (i.head, i.bodies, j.all) (never _ b.0.1 (open_Synchronized at x.opens x.head x.bodies x.closes z.opens z.items z.closes)))
+
+  catch_sound : (ts : Tokens) (y : JCatch × Tokens) → r.catch_read R d ts ≡ Some y → (ts ≡ catch_tokens y.0 ++ y.1) × CatchStands y.0
+  unfolding r.catch_read TypedStands
+  catch_sound ts y e =
+      let a = bind_some (r.catch_word ts) _ _ e in
+      let lp = bind_some (open_round a.0.1) _ _ a.2 in
+      let p = bind_some (typed_read (suc d) lp.0.1) _ _ lp.2 in
+      let rp = bind_some (close p.0.1) _ _ p.2 in
+      let b = bind_some (r.block R d rp.0.1) _ _ rp.2 in
+      let i = typed_sound (suc d) lp.0.1 p.0 p.1 in
+      let j = block_sound d rp.0.1 b.0 b.1 in
+      let x = p.0.0 in
+      let z = b.0.0 in
+      let layer : JCatch-F JBody JMember JStatement JCase JCaseGroup JCatch =
+      record { at = a.0.0; opens = lp.0.0; caught = x; closes = rp.0.0; left = z.opens; statements = z.items; right = z.closes } in
+      let Q : JCatch × Tokens → Type 0 = λ y. (ts ≡ catch_tokens y.0 ++ y.1) × CatchStands y.0 in
+      let G : JCatch-F JBody JMember JStatement JCase JCaseGroup JCatch → Type 0 = λ l. catch_stands P d l in
+      subst Q (some_same b.2) (
+        catch_only ts a.0 a.1
+        ∙ ap (λ (l : Tokens). Token.Word w.Catch a.0.0 ∷ l) (
+          open_round_only a.0.1 lp.0 lp.1
+          ∙ ap (λ (l : Tokens). Token.Sign m.OpenRound lp.0.0 ∷ l) (
+            i.0 ∙ ap (λ (l : Tokens). typed_tokens x ++ l) (close_only p.0.1 rp.0 rp.1 ∙ ap (λ (l : Tokens). Token.Sign m.CloseRound rp.0.0 ∷ l) j.same)
+            ∙ sym (append_assoc (typed_tokens x) (Token.Sign m.CloseRound rp.0.0 ∷ braced z.opens (map statement_tokens z.items) z.closes) b.0.1)
+          )
+        )
+        ∙ ap (λ (l : Tokens). l ++ b.0.1) (sym (tokens_Catch layer)),
+        subst G (sym (out-roll-JCatch layer)) (i.1, j.all),
+      )
+
+  -- `try`, its block, the catches and what follows
+  try_text : (at : Position) (x : r.Braced JStatement) (ts us : Tokens) (catches : List JCatch) (more rest : Tokens) → ts ≡ braced x.opens (map statement_tokens x.items) x.closes ++ us
+      → us ≡ joined (map catch_tokens catches) ++ (more ++ rest)
+      → Token.Word w.Try at ∷ ts ≡ (Token.Word w.Try at ∷ (braced x.opens (map statement_tokens x.items) x.closes ++ (joined (map catch_tokens catches) ++ more))) ++ rest
+  try_text at x ts us catches more rest same further =
+      ap (λ (l : Tokens). Token.Word w.Try at ∷ l) (
+        same ∙ ap (λ (l : Tokens). braced x.opens (map statement_tokens x.items) x.closes ++ l) (further ∙ sym (append_assoc (joined (map catch_tokens catches)) more rest))
+        ∙ sym (append_assoc (braced x.opens (map statement_tokens x.items) x.closes) (joined (map catch_tokens catches) ++ more) rest)
+      )
+
+  try_alone_sound : (place : Role) (at : Position) (x : r.Braced JStatement) (ts us : Tokens) (catches : List JCatch) (rest : Tokens) (y : JStatement × Tokens) → BlockIs d ts (x, us)
+      → ManyIs JCatch catch_tokens CatchStands us (catches, rest) → r.try_alone R d at x catches rest ≡ Some y → StatementIs (node_stands P d) place (Token.Word w.Try at ∷ ts) y
+  try_alone_sound place at x ts us [] rest y i j e = absurd (cc e)
+  try_alone_sound place at x ts us (c ∷ cs) rest y i j e =
+      let catches : List JCatch = c ∷ cs in
+      subst (StatementIs (node_stands P d) place (Token.Word w.Try at ∷ ts)) (some_same e)
+      (made place (JStatement-F.Try at x.opens x.items x.closes catches) _ _ rest (Token.Word w.Try at ∷ (braced x.opens (map statement_tokens x.items) x.closes ++ joined (map catch_tokens catches)))
+      (st.rolls-Try at x.opens x.items x.closes catches) (tokens_Try at x.opens x.items x.closes catches)
+      (try_text at x ts us catches [] rest i.same j.same
+      ∙ ap (λ (l : Tokens). (Token.Word w.Try at ∷ (braced x.opens (map statement_tokens x.items) x.closes ++ l)) ++ rest) (append-nil (joined (map catch_tokens catches))))
+      (i.all, omega arith, j.all) (never _ rest (open_Try at x.opens x.items x.closes catches)))
+
+  finally_sound : (place : Role) (at : Position) (x : r.Braced JStatement) (ts us : Tokens) (catches : List JCatch) (last : Position) (rest : Tokens) (y : JStatement × Tokens) → BlockIs d ts (x, us)
+      → ManyIs JCatch catch_tokens CatchStands us (catches, Token.Word w.Finally last ∷ rest) → r.finally_read R d at x catches last rest ≡ Some y
+      → StatementIs (node_stands P d) place (Token.Word w.Try at ∷ ts) y
+  unfolding r.finally_read
+  finally_sound place at x ts us catches last rest y i j e =
+      let b = bind_some (r.block R d rest) _ _ e in
+      let k = block_sound d rest b.0 b.1 in
+      let z = b.0.0 in
+      let more : Tokens = Token.Word w.Finally last ∷ braced z.opens (map statement_tokens z.items) z.closes in
+      subst (StatementIs (node_stands P d) place (Token.Word w.Try at ∷ ts)) (some_same b.2)
+      (made place (JStatement-F.TryFinally at x.opens x.items x.closes catches last z.opens z.items z.closes) _ _ b.0.1
+      (Token.Word w.Try at ∷ (braced x.opens (map statement_tokens x.items) x.closes ++ (joined (map catch_tokens catches) ++ more)))
+      (st.rolls-TryFinally at x.opens x.items x.closes catches last z.opens z.items z.closes) (tokens_TryFinally at x.opens x.items x.closes catches last z.opens z.items z.closes)
+      (try_text at x ts us catches more b.0.1 i.same (j.same ∙ ap (λ (l : Tokens). joined (map catch_tokens catches) ++ Token.Word w.Finally last ∷ l) k.same))
+      (i.all, j.all, k.all) (never _ b.0.1 (open_TryFinally at x.opens x.items x.closes catches last z.opens z.items z.closes)))
+
+  try_end_sound : (place : Role) (at : Position) (x : r.Braced JStatement) (ts us : Tokens) (catches : List JCatch) (rest : Tokens) (y : JStatement × Tokens) → BlockIs d ts (x, us)
+      → ManyIs JCatch catch_tokens CatchStands us (catches, rest) → r.try_end R d at x catches rest ≡ Some y → StatementIs (node_stands P d) place (Token.Word w.Try at ∷ ts) y
+  try_end_sound place at x ts us catches (Token.Word w.Finally last ∷ rest) y i j e = finally_sound place at x ts us catches last rest y i j e
+  try_end_sound place at x ts us catches rest y i j e = try_alone_sound place at x ts us catches rest y i j e
+
+  try_sound : (place : Role) (at : Position) (ts : Tokens) (y : JStatement × Tokens) → r.try_read R d at ts ≡ Some y → StatementIs (node_stands P d) place (Token.Word w.Try at ∷ ts) y
+  unfolding r.try_read
+  try_sound place at ts y e =
+      let a = bind_some (r.block R d ts) _ _ e in
+      let b = bind_some (r.until r.no_catch (r.catch_read R d) a.0.1) _ _ a.2 in
+      let i = block_sound d ts a.0 a.1 in
+      let j = (many_sound JCatch catch_tokens CatchStands r.no_catch (r.catch_read R d) catch_sound (length a.0.1) a.0.1 b.0 b.1).many in
+      try_end_sound place at a.0.0 ts a.0.1 b.0.0 b.0.1 y i j b.2
+
+  worded_sound : (place : Role) (word : Keyword) (at : Position) (rest : Tokens) (y : JStatement × Tokens) → r.worded R d place word at rest ≡ Some y
+      → StatementIs (node_stands P d) place (Token.Word word at ∷ rest) y
+  worded_sound place w.If at rest y e = if_sound place at rest y e
+  worded_sound place w.While at rest y e = while_sound place at rest y e
+  worded_sound place w.Do at rest y e = do_sound place at rest y e
+  worded_sound place w.For at rest y e = loop_sound place at rest y e
+  worded_sound place w.Switch at rest y e = switch_sound place at rest y e
+  worded_sound place w.Synchronized at rest y e = synchronized_sound place at rest y e
+  worded_sound place w.Try at rest y e = try_sound place at rest y e
+  worded_sound place word at rest y e = simple_sound place (Token.Word word at ∷ rest) y e
+
+  statement_sound : (place : Role) (ts : Tokens) (y : JStatement × Tokens) → r.statement_step R d place ts ≡ Some y → StatementIs (node_stands P d) place ts y
+  statement_sound place (Token.Sign m.OpenCurly at ∷ rest) y e = block_statement_sound place (Token.Sign m.OpenCurly at ∷ rest) y e
+  statement_sound place (Token.Word word at ∷ rest) y e = worded_sound place word at rest y e
+  statement_sound place (Token.Id n at ∷ Token.Sign m.Colon colon ∷ rest) y e = labeled_sound place n at colon rest y e
+  statement_sound place ts y e = simple_sound place ts y e
