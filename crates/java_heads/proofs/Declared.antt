@@ -34,7 +34,7 @@ value_sound d ts x e =
     let P : Option JValue × Tokens → Type 0 = λ x. (ts ≡ value_tokens x.0 ++ x.1) × value_stands d x.0 in
     subst P (some_same e) (refl, tt)
 
-declarator_sound : (d : ℕ) (ts : Tokens) (x : JDeclarator × Tokens) → declarator_read d ts ≡ Some x → (ts ≡ declarator_tokens x.0 ++ x.1) × DeclaratorStands d x.0
+pub declarator_sound : (d : ℕ) (ts : Tokens) (x : JDeclarator × Tokens) → declarator_read d ts ≡ Some x → (ts ≡ declarator_tokens x.0 ++ x.1) × DeclaratorStands d x.0
 unfolding declarator_read DeclaratorStands
 declarator_sound zero ts x e = absurd (cc e)
 declarator_sound (suc d) ts x e =
@@ -85,7 +85,7 @@ unfolding declarator_read DeclaratorStands
 declarator_again zero x s rest h = absurd s
 declarator_again (suc d) x s rest h = rw (value_again d x.value s rest h) refl
 
-names_again : (d : ℕ) (names : List JDeclarator) (commas : List Position) (rest : Tokens) → 1 ≤ length names → AreBetween commas names → AllByRecursion (DeclaratorStands d) names
+pub names_again : (d : ℕ) (names : List JDeclarator) (commas : List Position) (rest : Tokens) → 1 ≤ length names → AreBetween commas names → AllByRecursion (DeclaratorStands d) names
     → ends_expressions rest ≡ true → r.some_by r.comma (declarator_read d) (listed commas (map declarator_tokens names) ++ rest) ≡ Some ((names, commas), rest)
 names_again d [] commas rest some b all e = absurd (omega (arith, some))
 names_again d (n ∷ ns) commas rest some b all e =
@@ -108,7 +108,7 @@ pub final_again : (d : ℕ) (is_final : Option Position) (ts : Tokens) (x : JTyp
 final_again d None ts x e = not_final d ts x e
 final_again d (Some at) ts x e = refl
 
-names_end : (names : List JDeclarator) (commas : List Position) (rest : Tokens) → 1 ≤ length names → EndsType (listed commas (map declarator_tokens names) ++ rest)
+pub names_end : (names : List JDeclarator) (commas : List Position) (rest : Tokens) → 1 ≤ length names → EndsType (listed commas (map declarator_tokens names) ++ rest)
 names_end [] commas rest some = absurd (omega (arith, some))
 names_end (n ∷ ns) commas rest some = (refl, refl, refl)
 

@@ -32,7 +32,7 @@ use Rattle.java_heads.proofs.Simple.{statement_sound, statement_again}
 
 -- ---- what is read is spelled so
 
-semicolon_only : (ts : Tokens) (c : Position × Tokens) → semicolon ts ≡ Some c → ts ≡ Token.Sign m.Semicolon c.0 ∷ c.1
+pub semicolon_only : (ts : Tokens) (c : Position × Tokens) → semicolon ts ≡ Some c → ts ≡ Token.Sign m.Semicolon c.0 ∷ c.1
 semicolon_only (Token.Sign m.Semicolon at ∷ rest) c e = let same : (at, rest) ≡ c = some_same e in ap (λ (x : Position × Tokens). Token.Sign m.Semicolon x.0 ∷ x.1) same
 semicolon_only _ c e = absurd (cc e)
 

@@ -1,12 +1,11 @@
 -- Which tokens the heads of members and types spell, and which stand.
-use Rattle.std.specs.Prelude.{◌≡◌, ◌≤◌, ◌||◌, ◌&&◌, ◌+◌, ℕ, zero, suc, Bool, true, false, not, List, [], ◌∷◌, ◌++◌, length, map, Option, Some, None, codes}
+use Rattle.std.specs.Prelude.{◌≡◌, ◌≤◌, ℕ, zero, suc, Bool, true, not, List, [], ◌∷◌, ◌++◌, length, map, Option, Some, None, codes}
 use Rattle.std.specs.List.{AllByRecursion}
 use Rattle.java_tree.specs.declared.tokens.Position.{Position}
 use Rattle.java_tree.specs.declared.tokens.Mark.TheVariants as m
 use Rattle.java_tree.specs.declared.tokens.Keyword.{Keyword}
 use Rattle.java_tree.specs.declared.tokens.Keyword.TheVariants as w
 use Rattle.java_tree.specs.Seen.{Token, Tokens}
-use Rattle.java_tree.specs.declared.types.JQualified.{JQualified}
 use Rattle.java_tree.specs.Trees.{listed, AreBetween, closing, trailing, typed_tokens, type_tokens, qualified_tokens, tokens, any_level, TypeStands, TypedStands, Stands}
 use Rattle.java_heads.specs.declared.declarations.JDeclaration.{JDeclaration}
 use Rattle.java_heads.specs.Heads.{declaration_tokens, DeclaratorStands}
@@ -165,10 +164,30 @@ MemberStands d e (head.Method mods params result n at formals throws) = type_par
 MemberStands d e (head.Constructor mods n at formals throws) = formals_stand d formals × list_stands d throws
 MemberStands d e (head.Initializer static) = Unit {0}
 
+-- whether it may stand before a block, or before a `;` (JLS 8.1.6)
+abbrev pub may_precede : Bool → JMemberHead → Bool
+may_precede has_body head.Empty = not has_body
+may_precede has_body (head.Field mods x) = not has_body
+may_precede has_body (head.Method mods params result n at formals throws) = true
+may_precede has_body (head.Constructor mods n at formals throws) = has_body
+may_precede has_body (head.Initializer static) = has_body
+
+-- The head spells the tokens before a block, or before a `;`, with its parts at a depth of at most d and the values of a
+-- field at a depth of less than e.
+pub record MemberSpells (d e : ℕ) (has_body : Bool) (x : JMemberHead) (text : Tokens) : Type 0 where
+  pub precedes : may_precede has_body x ≡ true
+  pub stands : MemberStands d e x
+  pub same : member_tokens x ≡ text
+
 abbrev pub TypeHeadStands : ℕ → JTypeHead → Type 0
 TypeHeadStands d (kind.Class mods at n nat params above faces) = type_params_stand d params × bound_stands d above × list_stands d faces
 TypeHeadStands d (kind.Interface mods at n nat params above) = type_params_stand d params × list_stands d above
 TypeHeadStands d (kind.Enum mods at n nat faces) = list_stands d faces
+
+-- The head spells the tokens, with its parts at a depth of at most the number.
+pub record TypeHeadSpells (d : ℕ) (x : JTypeHead) (text : Tokens) : Type 0 where
+  pub stands : TypeHeadStands d x
+  pub same : type_head_tokens x ≡ text
 
 abbrev pub arguments_stand : ℕ → Option JArguments → Type 0
 arguments_stand d None = Unit {0}
@@ -179,3 +198,15 @@ ConstantStands d x = arguments_stand d x.arguments
 
 abbrev pub ConstantsStand : ℕ → JConstants → Type 0
 ConstantsStand d x = AreBetween x.commas x.items × AllByRecursion (ConstantStands d) x.items
+
+-- The constants spell the tokens, with their arguments at a depth of at most the number.
+pub record ConstantsSpell (d : ℕ) (x : JConstants) (text : Tokens) : Type 0 where
+  pub stands : ConstantsStand d x
+  pub same : constants_tokens x ≡ text
+
+-- The line spells the tokens.
+pub record PackageSpells (x : JPackage) (text : Tokens) : Type 0 where
+  pub same : package_tokens x ≡ text
+
+pub record ImportSpells (x : JImport) (text : Tokens) : Type 0 where
+  pub same : import_tokens x ≡ text

@@ -1,6 +1,5 @@
 -- Which modifiers may stand before what (JLS 8.1.1, 8.3.1, 8.4.3, 8.8.3, 9.3, 9.4, and the profile).
-use Rattle.std.specs.Prelude.{◌≡◌, ℕ, Bool, true, false, not, ◌&&◌, ◌||◌, nat_eq, nat_lt, if◌then◌else◌, List, [], ◌∷◌, Option, Some, None}
-use Rattle.java_tree.specs.declared.tokens.Position.{Position}
+use Rattle.std.specs.Prelude.{ℕ, Bool, true, false, not, ◌&&◌, ◌||◌, nat_eq, nat_lt, List, [], ◌∷◌, Option, Some, None}
 use Rattle.java_heads.specs.declared.declarations.JDeclarator.{JDeclarator}
 use Rattle.java_members.specs.declared.modifiers.ModifierKind.{ModifierKind}
 use Rattle.java_members.specs.declared.modifiers.ModifierKind.TheVariants as modifier

@@ -1,5 +1,5 @@
 -- Reading the heads of members and types from whole lists of tokens.
-use Rattle.std.specs.Prelude.{◌≡◌, ℕ, zero, suc, Bool, true, false, if◌then◌else◌, List, [], ◌∷◌, Option, Some, None}
+use Rattle.std.specs.Prelude.{ℕ, zero, suc, Bool, true, false, if◌then◌else◌, List, [], ◌∷◌, Option, Some, None}
 use Rattle.std.specs.Str.{bytes_eq}
 use Rattle.std.specs.Prelude.{codes}
 use Rattle.java_tree.specs.declared.tokens.Position.{Position}
@@ -10,8 +10,7 @@ use Rattle.java_tree.specs.Seen.{Token, Tokens}
 use Rattle.java_tree.specs.declared.types.JType.{JType}
 use Rattle.java_tree.specs.declared.types.JQualified.{JQualified}
 use Rattle.java_tree.specs.declared.exprs.JParam.{JParam}
-use Rattle.java_tree.specs.Trees.{any_level}
-use Rattle.java_reading.specs.Reading.{Read, Reader, Listed, ◌>>=◌, maybe, whole, is_some, comma, close, open_round, ident, closes, qualified, type_read, base_read, typed_read, typed_from, some_by, args_from, read}
+use Rattle.java_reading.specs.Reading.{Read, Reader, Listed, ◌>>=◌, maybe, whole, comma, close, open_round, ident, closes, qualified, type_read, base_read, typed_read, typed_from, some_by, args_from, read}
 use Rattle.java_heads.specs.Reading.{semicolon, declaration_of}
 use Rattle.java_members.specs.declared.modifiers.ModifierKind.{ModifierKind}
 use Rattle.java_members.specs.declared.modifiers.ModifierKind.TheVariants as modifier

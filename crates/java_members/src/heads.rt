@@ -32,13 +32,7 @@ pub enum JMemberHead {
         Option<JTypeList>,
     ),
     /// The modifiers, the name of the class, the parameters, `throws` where it stands (JLS 8.8).
-    Constructor(
-        Items<JModifier>,
-        Name,
-        Position,
-        JFormals,
-        Option<JTypeList>,
-    ),
+    Constructor(Items<JModifier>, Name, Position, JFormals, Option<JTypeList>),
     /// `static` where it stands, before a block (JLS 8.6, 8.7).
     Initializer(Option<Position>),
 }
@@ -57,20 +51,7 @@ pub enum JTypeHead {
         Option<JTypeList>,
     ),
     /// The modifiers, `interface`, the name, the type parameters, `extends` where they stand (JLS 9.1).
-    Interface(
-        Items<JModifier>,
-        Position,
-        Name,
-        Position,
-        Option<JTypeParams>,
-        Option<JTypeList>,
-    ),
+    Interface(Items<JModifier>, Position, Name, Position, Option<JTypeParams>, Option<JTypeList>),
     /// The modifiers, `enum`, the name, `implements` where it stands (JLS 8.9).
-    Enum(
-        Items<JModifier>,
-        Position,
-        Name,
-        Position,
-        Option<JTypeList>,
-    ),
+    Enum(Items<JModifier>, Position, Name, Position, Option<JTypeList>),
 }

@@ -1,0 +1,7 @@
+pub mod Modified
+pub mod Clauses
+pub mod Members
+pub mod Types
+pub mod Enums
+pub mod Files
+pub mod Theorem
