@@ -9,9 +9,9 @@ use Rattle.java_tree.specs.declared.exprs.Span.{Span}
 use Rattle.java_tree.specs.Seen.{Token, Tokens, from_closing, body, body_by, joins, piece, pieces}
 use Rattle.java_reading.specs.Reading.{◌>>=◌, maybe}
 use Rattle.java_reading.proofs.Tools.{bind_some, maybe_is, some_same}
-use Rattle.java_pieces.proofs.BodySteps.{pieces_more}
+use Rattle.java_pieces.proofs.BodySteps.{pieces_more, pieces_none}
 use Rattle.java_units.specs.Tokens.{filled}
-use Rattle.java_units.specs.Standing.{counts}
+use Rattle.java_units.specs.Standing.{spans, counts}
 use Rattle.java_units.specs.Cutting.{Stop, Weight, weight, token_weight, turn, is_raw, behind, with_span, Cut, cut_step, cut_raw, cut_by, cut}
 
 -- ---- bodies
@@ -138,7 +138,7 @@ pieces_by e x ts o h =
 
 -- ---- heads with their bodies
 
-filled_raw : (x : Token) (ts : Tokens) (bs : List Tokens) → is_raw x ≡ true → filled (x ∷ ts) bs ≡ x ∷ filled ts bs
+pub filled_raw : (x : Token) (ts : Tokens) (bs : List Tokens) → is_raw x ≡ true → filled (x ∷ ts) bs ≡ x ∷ filled ts bs
 filled_raw (Token.ArrowBody at s) ts bs h = absurd (cc h)
 filled_raw (Token.CloseBody at s) ts bs h = absurd (cc h)
 filled_raw (Token.Sign mark at) ts bs h = refl
@@ -146,7 +146,7 @@ filled_raw (Token.Word word at) ts bs h = refl
 filled_raw (Token.Id n at) ts bs h = refl
 filled_raw (Token.Literal x at) ts bs h = refl
 
-counts_raw : (x : Token) (ts : Tokens) → is_raw x ≡ true → counts (x ∷ ts) ≡ counts ts
+pub counts_raw : (x : Token) (ts : Tokens) → is_raw x ≡ true → counts (x ∷ ts) ≡ counts ts
 counts_raw (Token.ArrowBody at s) ts h = absurd (cc h)
 counts_raw (Token.CloseBody at s) ts h = absurd (cc h)
 counts_raw (Token.Sign mark at) ts h = refl
@@ -512,3 +512,60 @@ cut_kept stop text bs z more w h ends c p =
     let l5 = ap length ends.is in
     let whole : ℕ = length (filled text bs ++ (z ++ more)) in
     cut_again stop text bs z more w (length (filled text bs ++ z)) whole 0 false ends (omega (arith, l1, l2)) whole h c p (omega arith) (omega (arith, l3, l4, l5))
+
+-- ---- a token that belongs to a head which it ends
+
+pub record Tail (z : Tokens) : Type 0 where
+  pub spans : spans z ≡ []
+  pub counts : counts z ≡ []
+  pub filled : filled z [] ≡ z
+  pub pieces : (e : ℕ) → pieces e z ≡ z
+
+pub no_tail : Tail []
+no_tail = record { spans = refl; counts = refl; filled = refl; pieces = pieces_none }
+
+pub mark_tail : (mark : Mark) (at : Position) → joins_next (Token.Sign mark at) ≡ false → Tail (Token.Sign mark at ∷ [])
+mark_tail mark at h = record {
+  spans = refl;
+  counts = refl;
+  filled = refl;
+  pieces = λ e. pieces_by e (Token.Sign mark at) [] None (no_behind (Token.Sign mark at) e [] (by mark h)) ∙ ap (λ (l : Tokens). Token.Sign mark at ∷ l) (pieces_none e);
+}
+  where
+    by : (mark : Mark) → joins_next (Token.Sign mark at) ≡ false → (joins_next (Token.Sign mark at) && false) ≡ false
+    by m.Arrow h = refl
+    by m.CloseRound h = refl
+    by _ h = refl
+
+pub spans_end : (text z : Tokens) → Tail z → spans (text ++ z) ≡ spans text
+spans_end [] z t = t.spans
+spans_end (Token.ArrowBody at span ∷ text) z t = ap (λ l. true ∷ l) (spans_end text z t)
+spans_end (Token.CloseBody at span ∷ text) z t = ap (λ l. false ∷ l) (spans_end text z t)
+spans_end (Token.Sign mark at ∷ text) z t = spans_end text z t
+spans_end (Token.Word word at ∷ text) z t = spans_end text z t
+spans_end (Token.Id n at ∷ text) z t = spans_end text z t
+spans_end (Token.Literal x at ∷ text) z t = spans_end text z t
+
+pub counts_end : (text z : Tokens) → Tail z → counts (text ++ z) ≡ counts text
+counts_end [] z t = t.counts
+counts_end (Token.ArrowBody at span ∷ text) z t = ap (λ l. (span.to - span.from) ∷ l) (counts_end text z t)
+counts_end (Token.CloseBody at span ∷ text) z t = ap (λ l. (span.to - span.from) ∷ l) (counts_end text z t)
+counts_end (Token.Sign mark at ∷ text) z t = counts_end text z t
+counts_end (Token.Word word at ∷ text) z t = counts_end text z t
+counts_end (Token.Id n at ∷ text) z t = counts_end text z t
+counts_end (Token.Literal x at ∷ text) z t = counts_end text z t
+
+pub filled_end : (text z : Tokens) (bs : List Tokens) → Tail z → map length bs ≡ counts text → filled (text ++ z) bs ≡ filled text bs ++ z
+filled_end [] z bs t c = ap (λ (l : List Tokens). filled z l) (no_counts bs c) ∙ t.filled
+filled_end (Token.ArrowBody at span ∷ text) z [] t c = absurd (cc c)
+filled_end (Token.CloseBody at span ∷ text) z [] t c = absurd (cc c)
+filled_end (Token.ArrowBody at span ∷ text) z (b ∷ bs) t c =
+    ap (λ (l : Tokens). Token.Sign m.Arrow at ∷ left span.opens ∷ (b ++ right span.closes ∷ l)) (filled_end text z bs t (cc c))
+    ∙ ap (λ (l : Tokens). Token.Sign m.Arrow at ∷ left span.opens ∷ l) (sym (append_assoc b (right span.closes ∷ filled text bs) z))
+filled_end (Token.CloseBody at span ∷ text) z (b ∷ bs) t c =
+    ap (λ (l : Tokens). Token.Sign m.CloseRound at ∷ left span.opens ∷ (b ++ right span.closes ∷ l)) (filled_end text z bs t (cc c))
+    ∙ ap (λ (l : Tokens). Token.Sign m.CloseRound at ∷ left span.opens ∷ l) (sym (append_assoc b (right span.closes ∷ filled text bs) z))
+filled_end (Token.Sign mark at ∷ text) z bs t c = ap (λ (l : Tokens). Token.Sign mark at ∷ l) (filled_end text z bs t c)
+filled_end (Token.Word word at ∷ text) z bs t c = ap (λ (l : Tokens). Token.Word word at ∷ l) (filled_end text z bs t c)
+filled_end (Token.Id n at ∷ text) z bs t c = ap (λ (l : Tokens). Token.Id n at ∷ l) (filled_end text z bs t c)
+filled_end (Token.Literal x at ∷ text) z bs t c = ap (λ (l : Tokens). Token.Literal x at ∷ l) (filled_end text z bs t c)

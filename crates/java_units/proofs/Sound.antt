@@ -38,7 +38,7 @@ use Rattle.java_units.specs.Cutting.{Stop, Cut, cut}
 use Rattle.java_units.specs.Standing.{ends_open, Role, may_stand, Owner, is_block, is_block_by, spans, counts, AreBodies, Node, bodies_stand, HeadStands, all_stand, first_stand, block_stands, first_block_stands, case_stands, group_stands, catch_stands, condition_stands, statement_stands, body_stands, node_stands}
 use Rattle.java_units.specs.Reading as r
 use Rattle.java_units.proofs.Texts.{case_tokens, group_tokens, catch_tokens, tokens_Simple, tokens_Block, tokens_Labeled, tokens_If, tokens_IfElse, tokens_While, tokens_Do, tokens_For, tokens_Switch, tokens_Synchronized, tokens_Try, tokens_TryFinally, tokens_Statements, tokens_Members, tokens_Case, tokens_CaseGroup, tokens_Catch, out_statement, out_body, open_Simple, open_Block, open_Labeled, open_If, open_IfElse, open_While, open_Do, open_For, open_Switch, open_Synchronized, open_Try, open_TryFinally}
-use Rattle.java_units.proofs.Cuts.{CutIs, cut_is}
+use Rattle.java_units.proofs.Cuts.{CutIs, cut_is, Tail, no_tail, mark_tail, spans_end, counts_end, filled_end}
 
 -- ---- one token
 
@@ -106,24 +106,28 @@ module _ (A : Type 0) (text : A → Tokens) (P : A → Type 0) where
         subst (Stopped A text P stop ts) (some_same b.2) (record { many = one_more ts a.0 b.0 i.0 i.1 j.many; stops = j.stops })
   ]
 
-  pub record BracedIs (ts : Tokens) (y : r.Braced A × Tokens) : Type 0 where
+  pub record BracedIs (Q : List A → Type 0) (ts : Tokens) (y : r.Braced A × Tokens) : Type 0 where
     pub same : ts ≡ braced y.0.opens (map text y.0.items) y.0.closes ++ y.1
-    pub all : AllByRecursion P y.0.items
+    pub all : Q y.0.items
 
-  pub braced_sound : (list : Reader (List A)) → ((ts : Tokens) (y : List A × Tokens) → list ts ≡ Some y → ManyIs A text P ts y)
-      → (ts : Tokens) (y : r.Braced A × Tokens) → r.braced list ts ≡ Some y → BracedIs ts y
+  braced_any : (Q : List A → Type 0) (list : Reader (List A)) → ((ts : Tokens) (y : List A × Tokens) → list ts ≡ Some y → (ts ≡ joined (map text y.0) ++ y.1) × Q y.0)
+      → (ts : Tokens) (y : r.Braced A × Tokens) → r.braced list ts ≡ Some y → BracedIs Q ts y
   unfolding r.braced
-  braced_sound list sounds ts y e =
+  braced_any Q list sounds ts y e =
       let a = bind_some (open_curly ts) _ _ e in
       let b = bind_some (list a.0.1) _ _ a.2 in
       let c = bind_some (r.close_curly b.0.1) _ _ b.2 in
       let i = sounds a.0.1 b.0 b.1 in
-      subst (BracedIs ts) (some_same c.2) (record {
+      subst (BracedIs Q ts) (some_same c.2) (record {
         same =
             open_curly_only ts a.0 a.1
-            ∙ ap (λ (l : Tokens). Token.Sign m.OpenCurly a.0.0 ∷ l) (i.same ∙ ap (λ (l : Tokens). joined (map text b.0.0) ++ l) (close_curly_only b.0.1 c.0 c.1) ∙ sym (append_assoc (joined (map text b.0.0)) (Token.Sign m.CloseCurly c.0.0 ∷ []) c.0.1));
-        all = i.all;
+            ∙ ap (λ (l : Tokens). Token.Sign m.OpenCurly a.0.0 ∷ l) (i.0 ∙ ap (λ (l : Tokens). joined (map text b.0.0) ++ l) (close_curly_only b.0.1 c.0 c.1) ∙ sym (append_assoc (joined (map text b.0.0)) (Token.Sign m.CloseCurly c.0.0 ∷ []) c.0.1));
+        all = i.1;
       })
+
+  braced_sound : (list : Reader (List A)) → ((ts : Tokens) (y : List A × Tokens) → list ts ≡ Some y → ManyIs A text P ts y)
+      → (ts : Tokens) (y : r.Braced A × Tokens) → r.braced list ts ≡ Some y → BracedIs (AllByRecursion P) ts y
+  braced_sound list sounds ts y e = braced_any (AllByRecursion P) list (λ ts y h. let i = sounds ts y h in (i.same, i.all)) ts y e
 
 -- ---- heads
 
@@ -143,6 +147,20 @@ cut_pieces ts c z more i h =
     let l1 = ap length (i.same ∙ ap (λ (l : Tokens). filled c.text c.bodies ++ l) h ∙ sym (append_assoc (filled c.text c.bodies) z more)) in
     let l2 = length-append (filled c.text c.bodies ++ z) more in
     i.numbered z more (length (filled c.text c.bodies ++ z)) h (omega (arith, l1, l2))
+
+pub are_bodies : (text : Tokens) (texts : List Tokens) (xs : List JBody) → map body_tokens xs ≡ texts → map is_block xs ≡ spans text → map length texts ≡ counts text
+    → text ≡ pieces (length (filled text texts)) (filled text texts) → AreBodies text xs
+are_bodies text texts xs same kinds counted numbered =
+    let N : List Tokens → Type 0 = λ l. text ≡ pieces (length (filled text l)) (filled text l) in
+    record { each = kinds; counted = ap (map length) same ∙ counted; numbered = subst N (sym same) numbered }
+
+-- the bodies of a head that a token of its own ends
+tail_bodies : (ts : Tokens) (c : Cut) (z more : Tokens) (xs : List JBody) → CutIs (length ts) ts c → c.rest ≡ z ++ more → Tail z → map body_tokens xs ≡ c.bodies → map is_block xs ≡ spans c.text
+    → AreBodies (c.text ++ z) xs
+tail_bodies ts c z more xs i h t same kinds =
+    let f = filled_end c.text z c.bodies t i.counted in
+    are_bodies (c.text ++ z) c.bodies xs same (kinds ∙ sym (spans_end c.text z t)) (i.counted ∙ sym (counts_end c.text z t))
+    (sym (ap (λ (l : Tokens). pieces (length l) l) f ∙ cut_pieces ts c z more i h ∙ ap (λ (l : Tokens). c.text ++ l) (t.pieces (length (filled c.text c.bodies ++ z)))))
 
 whole_pieces : (ts : Tokens) (c : Cut) → CutIs (length ts) ts c → c.text ≡ pieces (length (filled c.text c.bodies)) (filled c.text c.bodies)
 whole_pieces ts c i =
@@ -173,12 +191,6 @@ pub record BodiesAre (P : ℕ → Node → Type 0) (d : ℕ) (ls : Levels) (ks :
   pub same : map body_tokens xs ≡ ts
   pub kinds : map is_block xs ≡ ks
   pub stand : bodies_stand P d ls xs
-
-pub are_bodies : (text : Tokens) (texts : List Tokens) (xs : List JBody) → map body_tokens xs ≡ texts → map is_block xs ≡ spans text → map length texts ≡ counts text
-    → text ≡ pieces (length (filled text texts)) (filled text texts) → AreBodies text xs
-are_bodies text texts xs same kinds counted numbered =
-    let N : List Tokens → Type 0 = λ l. text ≡ pieces (length (filled text l)) (filled text l) in
-    record { each = kinds; counted = ap (map length) same ∙ counted; numbered = subst N (sym same) numbered }
 
 module _ (P : ℕ → Node → Type 0) (R : r.Readers) (S : Sounds P R) where
   bodies_sound : (d : ℕ) (ls : Levels) (ks : List Bool) (ts : List Tokens) (xs : List JBody) → length ks ≡ length ts → r.bodies_by R.body d ls ks ts ≡ Some xs
@@ -573,3 +585,67 @@ module _ (P : ℕ → Node → Type 0) (R : r.Readers) (S : Sounds P R) (d : ℕ
   statement_sound place (Token.Word word at ∷ rest) y e = worded_sound place word at rest y e
   statement_sound place (Token.Id n at ∷ Token.Sign m.Colon colon ∷ rest) y e = labeled_sound place n at colon rest y e
   statement_sound place ts y e = simple_sound place ts y e
+
+  -- ---- labels and bodies
+
+  label_sound : (ts : Tokens) (y : JCase × Tokens) → r.label_step R d ts ≡ Some y → (ts ≡ case_tokens y.0 ++ y.1) × node_stands P d (Node.Case y.0)
+  unfolding r.label_step
+  label_sound ts y e =
+      let a = bind_some (cut Stop.Colon ts) _ _ e in
+      let c = bind_some (colon a.0.rest) _ _ a.2 in
+      let b = bind_some (switch_read (suc d) (a.0.text ++ Token.Sign m.Colon c.0.0 ∷ [])) _ _ c.2 in
+      let k = bind_some (r.bodies_by R.body d (switch_levels b.0) (spans a.0.text) a.0.bodies) _ _ b.2 in
+      let i = cut_is Stop.Colon ts a.0 a.1 in
+      let z : Tokens = Token.Sign m.Colon c.0.0 ∷ [] in
+      let j = switch_is_spelled (suc d) (a.0.text ++ z) b.0 b.1 in
+      let l1 = length-map a.0.bodies length in
+      let l2 = ap length i.counted in
+      let l3 = spans_counts a.0.text in
+      let n = bodies_sound P R S d (switch_levels b.0) (spans a.0.text) a.0.bodies k.0 (omega (arith, l1, l2, l3)) k.1 in
+      let t : Tail z = mark_tail m.Colon c.0.0 refl in
+      let rest : a.0.rest ≡ z ++ c.0.1 = colon_only a.0.rest c.0 c.1 in
+      let are = tail_bodies ts a.0 z c.0.1 k.0 i rest t n.same n.kinds in
+      let F : Tokens → Type 0 = λ l. HeadStands P d l (switch_levels b.0) k.0 in
+      let layer : JCase-F JBody JMember JStatement JCase JCaseGroup JCatch = record { label = b.0; bodies = k.0 } in
+      let Q : JCase × Tokens → Type 0 = λ y. (ts ≡ case_tokens y.0 ++ y.1) × node_stands P d (Node.Case y.0) in
+      let G : JCase-F JBody JMember JStatement JCase JCaseGroup JCatch → Type 0 = λ l. case_stands P d l in
+      subst Q (some_same k.2) (
+        i.same ∙ ap (λ (l : Tokens). filled a.0.text a.0.bodies ++ l) rest ∙ sym (append_assoc (filled a.0.text a.0.bodies) z c.0.1)
+        ∙ ap (λ (l : Tokens). l ++ c.0.1) (
+          sym (filled_end a.0.text z a.0.bodies t i.counted) ∙ ap (λ (l : Tokens). filled l a.0.bodies) (sym j.0) ∙ ap (λ l. filled (switch_tokens b.0) l) (sym n.same) ∙ sym (tokens_Case layer)
+        ),
+        subst G (sym (out-roll-JCase layer)) (j.1, subst F (sym j.0) (record { are = are; stand = n.stand })),
+      )
+
+  statements_body : (ts : Tokens) (x : JBody) → r.body_step R d true ts ≡ Some x → BodyIs (node_stands P d) true ts x
+  unfolding r.body_step
+  statements_body ts x e =
+      let a = bind_some (whole (r.until r.is_end (R.statement d Role.Inner) ts)) _ _ e in
+      let i = (many_sound JStatement statement_tokens (λ x. P d (Node.Statement Role.Inner x)) r.is_end (R.statement d Role.Inner)
+      (λ ts y h. let i = S.statement d Role.Inner ts y h in (i.same, i.stands)) (length ts) ts (a.0, []) (whole_only (r.until r.is_end (R.statement d Role.Inner) ts) a.0 a.1)).many in
+      let out = out_body (JBody-F.Statements a.0) (body.Statements a.0) (body.rolls-Statements a.0) in
+      let G : JBody-F JBody JMember JStatement JCase JCaseGroup JCatch → Type 0 = λ l. body_stands P d l in
+      subst (BodyIs (node_stands P d) true ts) (some_same a.2) (record {
+        same = i.same ∙ append-nil (joined (map statement_tokens a.0)) ∙ sym (tokens_Statements a.0);
+        kind = ap is_block_by out;
+        stands = subst G (sym out) i.all;
+      })
+
+  members_body : (ts : Tokens) (x : JBody) → r.body_step R d false ts ≡ Some x → BodyIs (node_stands P d) false ts x
+  unfolding r.body_step
+  members_body ts x e =
+      let item = R.member (suc d) (Owner.Class None) in
+      let a = bind_some (whole (r.until r.is_end item ts)) _ _ e in
+      let i = (many_sound JMember whole_member_tokens (λ x. P (suc d) (Node.Member (Owner.Class None) x)) r.is_end item
+      (S.member (suc d) (Owner.Class None)) (length ts) ts (a.0, []) (whole_only (r.until r.is_end item ts) a.0 a.1)).many in
+      let out = out_body (JBody-F.Members a.0) (body.Members a.0) (body.rolls-Members a.0) in
+      let G : JBody-F JBody JMember JStatement JCase JCaseGroup JCatch → Type 0 = λ l. body_stands P d l in
+      subst (BodyIs (node_stands P d) false ts) (some_same a.2) (record {
+        same = i.same ∙ append-nil (joined (map whole_member_tokens a.0)) ∙ sym (tokens_Members a.0);
+        kind = ap is_block_by out;
+        stands = subst G (sym out) i.all;
+      })
+
+  body_sound : (kind : Bool) (ts : Tokens) (x : JBody) → r.body_step R d kind ts ≡ Some x → BodyIs (node_stands P d) kind ts x
+  body_sound true ts x e = statements_body ts x e
+  body_sound false ts x e = members_body ts x e
