@@ -2,3 +2,4 @@ pub mod Texts
 pub mod Cuts
 pub mod Passing
 pub mod Sound
+pub mod MemberSound

@@ -90,7 +90,7 @@ module _ (A : Type 0) (text : A → Tokens) (P : A → Type 0) where
   no_more : (ts : Tokens) → ManyIs A text P ts ([], ts)
   no_more ts = record { same = refl; all = tt }
 
-  many_sound : (stop : Tokens → Bool) (item : Reader A) → ((ts : Tokens) (y : A × Tokens) → item ts ≡ Some y → (ts ≡ text y.0 ++ y.1) × P y.0)
+  pub many_sound : (stop : Tokens → Bool) (item : Reader A) → ((ts : Tokens) (y : A × Tokens) → item ts ≡ Some y → (ts ≡ text y.0 ++ y.1) × P y.0)
       → (n : ℕ) (ts : Tokens) (y : List A × Tokens) → r.many stop item n ts ≡ Some y → Stopped A text P stop ts y
   unfolding r.many
   many_sound stop item sounds zero ts y e =
@@ -110,7 +110,7 @@ module _ (A : Type 0) (text : A → Tokens) (P : A → Type 0) where
     pub same : ts ≡ braced y.0.opens (map text y.0.items) y.0.closes ++ y.1
     pub all : Q y.0.items
 
-  braced_any : (Q : List A → Type 0) (list : Reader (List A)) → ((ts : Tokens) (y : List A × Tokens) → list ts ≡ Some y → (ts ≡ joined (map text y.0) ++ y.1) × Q y.0)
+  pub braced_any : (Q : List A → Type 0) (list : Reader (List A)) → ((ts : Tokens) (y : List A × Tokens) → list ts ≡ Some y → (ts ≡ joined (map text y.0) ++ y.1) × Q y.0)
       → (ts : Tokens) (y : r.Braced A × Tokens) → r.braced list ts ≡ Some y → BracedIs Q ts y
   unfolding r.braced
   braced_any Q list sounds ts y e =
@@ -125,13 +125,13 @@ module _ (A : Type 0) (text : A → Tokens) (P : A → Type 0) where
         all = i.1;
       })
 
-  braced_sound : (list : Reader (List A)) → ((ts : Tokens) (y : List A × Tokens) → list ts ≡ Some y → ManyIs A text P ts y)
+  pub braced_sound : (list : Reader (List A)) → ((ts : Tokens) (y : List A × Tokens) → list ts ≡ Some y → ManyIs A text P ts y)
       → (ts : Tokens) (y : r.Braced A × Tokens) → r.braced list ts ≡ Some y → BracedIs (AllByRecursion P) ts y
   braced_sound list sounds ts y e = braced_any (AllByRecursion P) list (λ ts y h. let i = sounds ts y h in (i.same, i.all)) ts y e
 
 -- ---- heads
 
-spans_counts : (ts : Tokens) → length (spans ts) ≡ length (counts ts)
+pub spans_counts : (ts : Tokens) → length (spans ts) ≡ length (counts ts)
 spans_counts [] = refl
 spans_counts (Token.ArrowBody at span ∷ ts) = ap suc (spans_counts ts)
 spans_counts (Token.CloseBody at span ∷ ts) = ap suc (spans_counts ts)
@@ -155,7 +155,7 @@ are_bodies text texts xs same kinds counted numbered =
     record { each = kinds; counted = ap (map length) same ∙ counted; numbered = subst N (sym same) numbered }
 
 -- the bodies of a head that a token of its own ends
-tail_bodies : (ts : Tokens) (c : Cut) (z more : Tokens) (xs : List JBody) → CutIs (length ts) ts c → c.rest ≡ z ++ more → Tail z → map body_tokens xs ≡ c.bodies → map is_block xs ≡ spans c.text
+pub tail_bodies : (ts : Tokens) (c : Cut) (z more : Tokens) (xs : List JBody) → CutIs (length ts) ts c → c.rest ≡ z ++ more → Tail z → map body_tokens xs ≡ c.bodies → map is_block xs ≡ spans c.text
     → AreBodies (c.text ++ z) xs
 tail_bodies ts c z more xs i h t same kinds =
     let f = filled_end c.text z c.bodies t i.counted in
@@ -193,7 +193,7 @@ pub record BodiesAre (P : ℕ → Node → Type 0) (d : ℕ) (ls : Levels) (ks :
   pub stand : bodies_stand P d ls xs
 
 module _ (P : ℕ → Node → Type 0) (R : r.Readers) (S : Sounds P R) where
-  bodies_sound : (d : ℕ) (ls : Levels) (ks : List Bool) (ts : List Tokens) (xs : List JBody) → length ks ≡ length ts → r.bodies_by R.body d ls ks ts ≡ Some xs
+  pub bodies_sound : (d : ℕ) (ls : Levels) (ks : List Bool) (ts : List Tokens) (xs : List JBody) → length ks ≡ length ts → r.bodies_by R.body d ls ks ts ≡ Some xs
       → BodiesAre P d ls ks ts xs
   bodies_sound d ls [] [] xs l e = subst (BodiesAre P d ls [] []) (some_same e) (record { same = refl; kinds = refl; stand = tt })
   bodies_sound d ls (k ∷ ks) [] xs l e = absurd (omega (arith, l))
@@ -216,7 +216,7 @@ module _ (P : ℕ → Node → Type 0) (R : r.Readers) (S : Sounds P R) where
       pub head : Q y.0.head
       pub bodies : HeadStands P d (text y.0.head) (levels y.0.head) y.0.bodies
 
-    head_sound : (stop : Stop) (of : Tokens → Option H) → Reads H text Q of → (ts : Tokens) (y : r.Headed H × Tokens) → r.head_read R.body d stop of levels ts ≡ Some y → HeadIs ts y
+    pub head_sound : (stop : Stop) (of : Tokens → Option H) → Reads H text Q of → (ts : Tokens) (y : r.Headed H × Tokens) → r.head_read R.body d stop of levels ts ≡ Some y → HeadIs ts y
     unfolding r.head_read
     head_sound stop of law ts y e =
         let a = bind_some (cut stop ts) _ _ e in
@@ -274,7 +274,7 @@ module _ (P : ℕ → Node → Type 0) (R : r.Readers) (S : Sounds P R) (d : ℕ
   never : (x : JStatement) (rest : Tokens) → ends_open x ≡ false → ends_open x ≡ true → begins_else rest ≡ false
   never x rest h g = let e = sym h ∙ g in absurd (cc e)
 
-  inner_sound : (e : ℕ) (ts : Tokens) (y : List JStatement × Tokens) → r.inner_list R e ts ≡ Some y → ManyIs JStatement statement_tokens (λ x. P e (Node.Statement Role.Inner x)) ts y
+  pub inner_sound : (e : ℕ) (ts : Tokens) (y : List JStatement × Tokens) → r.inner_list R e ts ≡ Some y → ManyIs JStatement statement_tokens (λ x. P e (Node.Statement Role.Inner x)) ts y
   inner_sound e ts y h =
       (many_sound JStatement statement_tokens (λ x. P e (Node.Statement Role.Inner x)) r.begins_close (R.statement e Role.Inner)
       (λ ts y h. let i = S.statement e Role.Inner ts y h in (i.same, i.stands)) (length ts) ts y h).many
@@ -283,7 +283,7 @@ module _ (P : ℕ → Node → Type 0) (R : r.Readers) (S : Sounds P R) (d : ℕ
     pub same : ts ≡ braced y.0.opens (map statement_tokens y.0.items) y.0.closes ++ y.1
     pub all : block_stands P e y.0.items
 
-  block_sound : (e : ℕ) (ts : Tokens) (y : r.Braced JStatement × Tokens) → r.block R e ts ≡ Some y → BlockIs e ts y
+  pub block_sound : (e : ℕ) (ts : Tokens) (y : r.Braced JStatement × Tokens) → r.block R e ts ≡ Some y → BlockIs e ts y
   unfolding r.block
   block_sound zero ts y h = absurd (cc h)
   block_sound (suc e) ts y h =
@@ -580,7 +580,7 @@ module _ (P : ℕ → Node → Type 0) (R : r.Readers) (S : Sounds P R) (d : ℕ
   worded_sound place w.Try at rest y e = try_sound place at rest y e
   worded_sound place word at rest y e = simple_sound place (Token.Word word at ∷ rest) y e
 
-  statement_sound : (place : Role) (ts : Tokens) (y : JStatement × Tokens) → r.statement_step R d place ts ≡ Some y → StatementIs (node_stands P d) place ts y
+  pub statement_sound : (place : Role) (ts : Tokens) (y : JStatement × Tokens) → r.statement_step R d place ts ≡ Some y → StatementIs (node_stands P d) place ts y
   statement_sound place (Token.Sign m.OpenCurly at ∷ rest) y e = block_statement_sound place (Token.Sign m.OpenCurly at ∷ rest) y e
   statement_sound place (Token.Word word at ∷ rest) y e = worded_sound place word at rest y e
   statement_sound place (Token.Id n at ∷ Token.Sign m.Colon colon ∷ rest) y e = labeled_sound place n at colon rest y e
@@ -588,7 +588,7 @@ module _ (P : ℕ → Node → Type 0) (R : r.Readers) (S : Sounds P R) (d : ℕ
 
   -- ---- labels and bodies
 
-  label_sound : (ts : Tokens) (y : JCase × Tokens) → r.label_step R d ts ≡ Some y → (ts ≡ case_tokens y.0 ++ y.1) × node_stands P d (Node.Case y.0)
+  pub label_sound : (ts : Tokens) (y : JCase × Tokens) → r.label_step R d ts ≡ Some y → (ts ≡ case_tokens y.0 ++ y.1) × node_stands P d (Node.Case y.0)
   unfolding r.label_step
   label_sound ts y e =
       let a = bind_some (cut Stop.Colon ts) _ _ e in
@@ -646,6 +646,6 @@ module _ (P : ℕ → Node → Type 0) (R : r.Readers) (S : Sounds P R) (d : ℕ
         stands = subst G (sym out) i.all;
       })
 
-  body_sound : (kind : Bool) (ts : Tokens) (x : JBody) → r.body_step R d kind ts ≡ Some x → BodyIs (node_stands P d) kind ts x
+  pub body_sound : (kind : Bool) (ts : Tokens) (x : JBody) → r.body_step R d kind ts ≡ Some x → BodyIs (node_stands P d) kind ts x
   body_sound true ts x e = statements_body ts x e
   body_sound false ts x e = members_body ts x e
