@@ -3,3 +3,4 @@ pub mod Cuts
 pub mod Passing
 pub mod Sound
 pub mod MemberSound
+pub mod Soundness

@@ -79,7 +79,7 @@ module _ (P : ℕ → Node → Type 0) (R : r.Readers) (S : Sounds P R) where
     stands = subst Q (sym (out_member layer x rolls)) stands;
   }
 
-  declared_sound : (d e h : ℕ) (levels : JMemberHead → Levels) (owner : Owner) (Q : Layer → Type 0)
+  pub declared_sound : (d e h : ℕ) (levels : JMemberHead → Levels) (owner : Owner) (Q : Layer → Type 0)
       → ((x : JMemberHead) (bodies : List JBody) (end : Position) → member_fits owner false x ≡ true → MemberStands d e x → HeadStands P h (member_tokens x) (levels x) bodies → Q (JMember-F.Declared x bodies end))
       → (ts : Tokens) (y : JMember × Tokens) → r.declared R d e h levels owner ts ≡ Some y → MemberIs Q ts y
   unfolding r.declared
@@ -136,7 +136,7 @@ module _ (P : ℕ → Node → Type 0) (R : r.Readers) (S : Sounds P R) where
   member_block_sound d (head.Method mods params result n at formals throws) ts y e = other_block_sound d ts y e
   member_block_sound d (head.Initializer static) ts y e = other_block_sound d ts y e
 
-  bodied_sound : (d e h : ℕ) (owner : Owner) (Q : Layer → Type 0)
+  pub bodied_sound : (d e h : ℕ) (owner : Owner) (Q : Layer → Type 0)
       → ((x : JMemberHead) (left : Position) (xs : List JStatement) (right : Position) → member_fits owner true x ≡ true → MemberStands d e x → member_block P h x xs → Q (JMember-F.Bodied x left xs right))
       → (ts : Tokens) (y : JMember × Tokens) → r.bodied R d e h owner ts ≡ Some y → MemberIs Q ts y
   unfolding r.bodied
@@ -235,7 +235,7 @@ module _ (P : ℕ → Node → Type 0) (R : r.Readers) (S : Sounds P R) where
     inside_sound (kind.Class mods at n nat params above faces) ts y e = plain_sound (kind.Class mods at n nat params above faces) ts y refl e
     inside_sound (kind.Interface mods at n nat params above) ts y e = plain_sound (kind.Interface mods at n nat params above) ts y refl e
 
-  type_sound : (d : ℕ) (nested : Owner → Reader JMember) (N : Owner → JMember → Type 0)
+  pub type_sound : (d : ℕ) (nested : Owner → Reader JMember) (N : Owner → JMember → Type 0)
       → ((owner : Owner) (ts : Tokens) (y : JMember × Tokens) → nested owner ts ≡ Some y → (ts ≡ whole_member_tokens y.0 ++ y.1) × N owner y.0)
       → (owner : Owner) (Q : Layer → Type 0)
       → ((x : JTypeHead) (left : Position) (cs : Option JConstants) (bodies : List JBody) (xs : List JMember) (right : Position) → type_fits (home_of owner) x ≡ true → TypeHeadStands d x
@@ -270,7 +270,7 @@ module _ (P : ℕ → Node → Type 0) (R : r.Readers) (S : Sounds P R) where
       ∙ sym (append_assoc (type_head_tokens a.0) text rc.0.1))
       (builds a.0 lc.0.0 z.constants z.bodies z.members rc.0.0 g.0 i.1 j.constants j.follows j.all))
 
-  member_sound : (d : ℕ) (owner : Owner) (ts : Tokens) (y : JMember × Tokens) → r.member_step R d owner ts ≡ Some y → MemberIs (member_stands P d owner) ts y
+  pub member_sound : (d : ℕ) (owner : Owner) (ts : Tokens) (y : JMember × Tokens) → r.member_step R d owner ts ≡ Some y → MemberIs (member_stands P d owner) ts y
   unfolding r.member_step
   member_sound d owner ts y e = elim (cond_is (r.goes_declared ts) _ _ _ e) [
     | inl h ↦ declared_sound d d d member_levels owner (member_stands P d owner) (λ x bodies end fits stands heads. (fits, stands, heads)) ts y h.1
