@@ -282,7 +282,7 @@ step_next : (b : Bool) (o : Option ℕ) (go : ℕ → Option ℕ) (k : ℕ) → 
 step_next true o go k h = absurd (cc h)
 step_next false o go k h = let a = bind_some o go k h in (refl, a.0, a.1, a.2)
 
-walk_next : (stop : Stop) (n : ℕ) (flag : Bool) (x : Token) (ts : Tokens) (k : ℕ) → walk stop n flag (x ∷ ts) ≡ Some k
+pub walk_next : (stop : Stop) (n : ℕ) (flag : Bool) (x : Token) (ts : Tokens) (k : ℕ) → walk stop n flag (x ∷ ts) ≡ Some k
     → ((is_open x && flag) ≡ false) × (j : ℕ) × (turn (token_weight x stop) n ≡ Some j) × (walk stop j (joins_next x) ts ≡ Some k)
 unfolding walk
 walk_next stop n flag x ts k h = step_next (is_open x && flag) (turn (token_weight x stop) n) (λ j. walk stop j (joins_next x) ts) k h

@@ -4,3 +4,4 @@ pub mod Passing
 pub mod Sound
 pub mod MemberSound
 pub mod Soundness
+pub mod Starts
