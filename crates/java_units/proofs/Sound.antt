@@ -35,7 +35,7 @@ use Rattle.java_units.specs.declared.statements.JBody.TheOpen.{JBody-F, JCase-F,
 use Rattle.java_units.specs.Tokens.{joined, filled, braced, headed, statement_tokens, body_tokens, whole_member_tokens}
 use Rattle.java_units.specs.Levels.{Levels, levels, simple_levels, for_levels, lock_levels, switch_levels}
 use Rattle.java_units.specs.Cutting.{Stop, Cut, cut}
-use Rattle.java_units.specs.Standing.{ends_open, Role, may_stand, Owner, is_block, is_block_by, spans, counts, AreBodies, Node, bodies_stand, HeadStands, all_stand, first_stand, block_stands, first_block_stands, case_stands, group_stands, catch_stands, condition_stands, statement_stands, body_stands, node_stands}
+use Rattle.java_units.specs.Standing.{ends_open, Role, may_stand, Owner, is_block, is_block_by, spans, counts, AreBodies, Node, bodies_stand, HeadStands, all_stand, first_stand, block_stands, first_block_stands, case_stands, group_stands, full_before, catch_stands, condition_stands, statement_stands, body_stands, node_stands}
 use Rattle.java_units.specs.Reading as r
 use Rattle.java_units.proofs.Texts.{case_tokens, group_tokens, catch_tokens, tokens_Simple, tokens_Block, tokens_Labeled, tokens_If, tokens_IfElse, tokens_While, tokens_Do, tokens_For, tokens_Switch, tokens_Synchronized, tokens_Try, tokens_TryFinally, tokens_Statements, tokens_Members, tokens_Case, tokens_CaseGroup, tokens_Catch, out_statement, out_body, open_Simple, open_Block, open_Labeled, open_If, open_IfElse, open_While, open_Do, open_For, open_Switch, open_Synchronized, open_Try, open_TryFinally}
 use Rattle.java_units.proofs.Cuts.{CutIs, cut_is, Tail, no_tail, mark_tail, spans_end, counts_end, filled_end}
@@ -436,23 +436,75 @@ module _ (P : ℕ → Node → Type 0) (R : r.Readers) (S : Sounds P R) (d : ℕ
         omega (arith, l)
   ]
 
-  group_sound : (ts : Tokens) (y : JCaseGroup × Tokens) → r.group_read R d ts ≡ Some y → (ts ≡ group_tokens y.0 ++ y.1) × GroupStands y.0
+  record GroupIs (ts : Tokens) (y : JCaseGroup × Tokens) : Type 0 where
+    same : ts ≡ group_tokens y.0 ++ y.1
+    stands : GroupStands y.0
+    begins : r.begins_case ts ≡ true
+    -- behind labels alone no further one follows
+    alone : length (out-JCaseGroup y.0).statements ≡ 0 → r.begins_case y.1 ≡ false
+
+  not_true : (b : Bool) → not b ≡ true → b ≡ false
+  not_true true h = absurd (cc h)
+  not_true false h = refl
+
+  alone_by : (xs : List JStatement) (ts rest : Tokens) → ts ≡ joined (map statement_tokens xs) ++ rest → r.no_case ts ≡ true → length xs ≡ 0 → r.begins_case rest ≡ false
+  alone_by [] ts rest same stops none = ap r.begins_case (sym same) ∙ not_true (r.begins_case ts) stops
+  alone_by (x ∷ xs) ts rest same stops none = absurd (omega (arith, none))
+
+  group_sound : (ts : Tokens) (y : JCaseGroup × Tokens) → r.group_read R d ts ≡ Some y → GroupIs ts y
   unfolding r.group_read
   group_sound ts y e =
       let g = guard_some (r.begins_case ts) _ y e in
       let a = bind_some (r.until r.no_case (R.label d) ts) _ _ g.1 in
       let b = bind_some (r.until r.ends_group (R.statement d Role.Inner) a.0.1) _ _ a.2 in
-      let i = (many_sound JCase case_tokens (λ x. P d (Node.Case x)) r.no_case (R.label d) (S.label d) (length ts) ts a.0 a.1).many in
+      let s = many_sound JCase case_tokens (λ x. P d (Node.Case x)) r.no_case (R.label d) (S.label d) (length ts) ts a.0 a.1 in
+      let i = s.many in
       let j = (many_sound JStatement statement_tokens (λ x. P d (Node.Statement Role.Inner x)) r.ends_group (R.statement d Role.Inner)
       (λ ts y h. let i = S.statement d Role.Inner ts y h in (i.same, i.stands)) (length a.0.1) a.0.1 b.0 b.1).many in
       let layer : JCaseGroup-F JBody JMember JStatement JCase JCaseGroup JCatch = record { labels = a.0.0; statements = b.0.0 } in
-      let Q : JCaseGroup × Tokens → Type 0 = λ y. (ts ≡ group_tokens y.0 ++ y.1) × GroupStands y.0 in
       let G : JCaseGroup-F JBody JMember JStatement JCase JCaseGroup JCatch → Type 0 = λ l. group_stands P d l in
-      subst Q (some_same b.2) (
-        i.same ∙ ap (λ (l : Tokens). joined (map case_tokens a.0.0) ++ l) j.same ∙ sym (append_assoc (joined (map case_tokens a.0.0)) (joined (map statement_tokens b.0.0)) b.0.1)
-        ∙ ap (λ (l : Tokens). l ++ b.0.1) (sym (tokens_CaseGroup layer)),
-        subst G (sym (out-roll-JCaseGroup layer)) (some_label (length ts) ts a.0 g.0 a.1, i.all, j.all),
-      )
+      let A : JCaseGroup-F JBody JMember JStatement JCase JCaseGroup JCatch → Type 0 = λ l. length l.statements ≡ 0 → r.begins_case b.0.1 ≡ false in
+      subst (GroupIs ts) (some_same b.2) (record {
+        same =
+            i.same ∙ ap (λ (l : Tokens). joined (map case_tokens a.0.0) ++ l) j.same ∙ sym (append_assoc (joined (map case_tokens a.0.0)) (joined (map statement_tokens b.0.0)) b.0.1)
+            ∙ ap (λ (l : Tokens). l ++ b.0.1) (sym (tokens_CaseGroup layer));
+        stands = subst G (sym (out-roll-JCaseGroup layer)) (some_label (length ts) ts a.0 g.0 a.1, i.all, j.all);
+        begins = g.0;
+        alone = subst A (sym (out-roll-JCaseGroup layer)) (alone_by b.0.0 a.0.1 b.0.1 j.same s.stops);
+      })
+
+  record GroupsAre (ts : Tokens) (y : List JCaseGroup × Tokens) : Type 0 where
+    many : ManyIs JCaseGroup group_tokens GroupStands ts y
+    full : full_before y.0
+    begins : 1 ≤ length y.0 → r.begins_case ts ≡ true
+
+  full_more : (x : JCaseGroup) (ts : Tokens) (xs : List JCaseGroup) → (length (out-JCaseGroup x).statements ≡ 0 → r.begins_case ts ≡ false) → (1 ≤ length xs → r.begins_case ts ≡ true) → full_before xs
+      → full_before (x ∷ xs)
+  full_more x ts [] alone begins full = tt
+  full_more x ts (y ∷ xs) alone begins full = (by (length (out-JCaseGroup x).statements) refl, full)
+    where
+      by : (n : ℕ) → length (out-JCaseGroup x).statements ≡ n → 1 ≤ length (out-JCaseGroup x).statements
+      by zero h = let e = sym (alone h) ∙ begins (omega arith) in absurd (cc e)
+      by (suc n) h = omega (arith, h)
+
+  groups_sound : (n : ℕ) (ts : Tokens) (y : List JCaseGroup × Tokens) → r.many r.begins_close (r.group_read R d) n ts ≡ Some y → GroupsAre ts y
+  unfolding r.many
+  groups_sound zero ts y e =
+      let g = guard_some (r.begins_close ts) _ y e in
+      subst (GroupsAre ts) (some_same g.1) (record { many = no_more JCaseGroup group_tokens GroupStands ts; full = tt; begins = λ h. absurd (omega (arith, h)) })
+  groups_sound (suc n) ts y e = elim (cond_is (r.begins_close ts) _ _ _ e) [
+    | inl h ↦ subst (GroupsAre ts) (some_same h.1) (record { many = no_more JCaseGroup group_tokens GroupStands ts; full = tt; begins = λ h. absurd (omega (arith, h)) })
+    | inr h ↦
+        let a = bind_some (r.group_read R d ts) _ _ h.1 in
+        let b = bind_some (r.many r.begins_close (r.group_read R d) n a.0.1) _ _ a.2 in
+        let i = group_sound ts a.0 a.1 in
+        let j = groups_sound n a.0.1 b.0 b.1 in
+        subst (GroupsAre ts) (some_same b.2) (record {
+          many = one_more JCaseGroup group_tokens GroupStands ts a.0 b.0 i.same i.stands j.many;
+          full = full_more a.0.0 a.0.1 b.0.0 i.alone j.begins j.full;
+          begins = λ h. i.begins;
+        })
+  ]
 
   switch_sound : (place : Role) (at : Position) (ts : Tokens) (y : JStatement × Tokens) → r.switch_statement R d at ts ≡ Some y → StatementIs (node_stands P d) place (Token.Word w.Switch at ∷ ts) y
   unfolding r.switch_statement
@@ -460,8 +512,8 @@ module _ (P : ℕ → Node → Type 0) (R : r.Readers) (S : Sounds P R) (d : ℕ
       let a = bind_some (r.condition R d ts) _ _ e in
       let b = bind_some (r.braced (r.until r.begins_close (r.group_read R d)) a.0.1) _ _ a.2 in
       let i = condition_sound ts a.0 a.1 in
-      let j = braced_sound JCaseGroup group_tokens GroupStands (r.until r.begins_close (r.group_read R d))
-      (λ ts y h. (many_sound JCaseGroup group_tokens GroupStands r.begins_close (r.group_read R d) group_sound (length ts) ts y h).many) a.0.1 b.0 b.1 in
+      let j = braced_any JCaseGroup group_tokens GroupStands (λ xs. AllByRecursion GroupStands xs × full_before xs) (r.until r.begins_close (r.group_read R d))
+      (λ ts y h. let k = groups_sound (length ts) ts y h in (k.many.same, (k.many.all, k.full))) a.0.1 b.0 b.1 in
       let x = a.0.0 in
       let z = b.0.0 in
       subst (StatementIs (node_stands P d) place (Token.Word w.Switch at ∷ ts)) (some_same b.2)
@@ -469,7 +521,7 @@ module _ (P : ℕ → Node → Type 0) (R : r.Readers) (S : Sounds P R) (d : ℕ
       (headed (Token.Word w.Switch at) x.opens (filled (tokens x.head) (map body_tokens x.bodies)) x.closes (braced z.opens (map group_tokens z.items) z.closes))
       (st.rolls-Switch at x.opens x.head x.bodies x.closes z.opens z.items z.closes) (tokens_Switch at x.opens x.head x.bodies x.closes z.opens z.items z.closes)
       (behind_head (Token.Word w.Switch at) ts x.opens (filled (tokens x.head) (map body_tokens x.bodies)) x.closes a.0.1 (braced z.opens (map group_tokens z.items) z.closes) b.0.1 i.same j.same)
-      ((i.head, i.bodies), j.all) (never _ b.0.1 (open_Switch at x.opens x.head x.bodies x.closes z.opens z.items z.closes)))
+      ((i.head, i.bodies), j.all.0, j.all.1) (never _ b.0.1 (open_Switch at x.opens x.head x.bodies x.closes z.opens z.items z.closes)))
 
   synchronized_sound : (place : Role) (at : Position) (ts : Tokens) (y : JStatement × Tokens) → r.synchronized R d at ts ≡ Some y
       → StatementIs (node_stands P d) place (Token.Word w.Synchronized at ∷ ts) y

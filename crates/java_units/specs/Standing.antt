@@ -160,6 +160,12 @@ constants_stand P (kind.Enum mods at n nat faces) None bodies = ⊥
 constants_stand P _ None bodies = bodies ≡ []
 constants_stand P _ (Some x) bodies = ⊥
 
+-- Labels that stand together are of one group, so that only the last group of a switch may hold no statement (JLS 14.11).
+abbrev pub full_before : List JCaseGroup → Type 0
+full_before [] = Unit {0}
+full_before (x ∷ []) = Unit {0}
+full_before (x ∷ y ∷ xs) = (1 ≤ length (out-JCaseGroup x).statements) × full_before (y ∷ xs)
+
 -- Members follow the constants of an enum only behind a `;`.
 abbrev pub follow_end : Option Position → List JMember → Type 0
 follow_end None members = members ≡ []
@@ -201,7 +207,7 @@ module _ (P : ℕ → Node → Type 0) (d : ℕ) where
   statement_stands place (JStatement-F.Do at body while_at lp test bodies rp end) = sole_stands body × condition_stands test bodies
   statement_stands place (JStatement-F.For at lp head bodies rp body) = ForStands d head × HeadStands P d (for_tokens head) (for_levels head) bodies × sole_stands body
   statement_stands place (JStatement-F.Switch at lp subject bodies rp left groups right) =
-      condition_stands subject bodies × AllByRecursion (λ x. group_stands (out-JCaseGroup x)) groups
+      condition_stands subject bodies × AllByRecursion (λ x. group_stands (out-JCaseGroup x)) groups × full_before groups
   statement_stands place (JStatement-F.Synchronized at lp lock bodies rp left xs right) =
       LockStands d lock × HeadStands P d (lock_tokens lock) (lock_levels lock) bodies × block_stands P d xs
   statement_stands place (JStatement-F.Try at left xs right catches) =
