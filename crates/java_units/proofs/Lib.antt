@@ -5,3 +5,4 @@ pub mod Sound
 pub mod MemberSound
 pub mod Soundness
 pub mod Starts
+pub mod Again

@@ -139,25 +139,25 @@ start_step stop (Token.Sign _ at) n flag rest h = refl
 start_step stop (_) n flag rest h = refl
 
 module _ (stop : Stop) where
-  none : Passes stop []
+  pub none : Passes stop []
   none = record { go = λ n flag. (flag, λ rest. refl) }
 
-  weak : {a : Tokens} → Passes stop a → Begun stop a
+  pub weak : {a : Tokens} → Passes stop a → Begun stop a
   weak {a} f = record { go = λ n. f.go n false }
 
-  nothing : Begun stop []
+  pub nothing : Begun stop []
   nothing = weak none
 
-  both : {a b : Tokens} → Passes stop a → Passes stop b → Passes stop (a ++ b)
+  pub both : {a b : Tokens} → Passes stop a → Passes stop b → Passes stop (a ++ b)
   both {a} {b} f g = record { go = λ n flag. let i = f.go n flag in let j = g.go n i.0 in (j.0, λ rest. ap (walk stop n flag) (append_assoc a b rest) ∙ i.1 (b ++ rest) ∙ j.1 rest) }
 
-  begun : {a b : Tokens} → Begun stop a → Passes stop b → Begun stop (a ++ b)
+  pub begun : {a b : Tokens} → Begun stop a → Passes stop b → Begun stop (a ++ b)
   begun {a} {b} f g = record { go = λ n. let i = f.go n in let j = g.go n i.0 in (j.0, λ rest. ap (walk stop n false) (append_assoc a b rest) ∙ i.1 (b ++ rest) ∙ j.1 rest) }
 
-  then_plain : {x : Token} {a : Tokens} → is_plain x ≡ true → Begun stop a → Passes stop (x ∷ a)
+  pub then_plain : {x : Token} {a : Tokens} → is_plain x ≡ true → Begun stop a → Passes stop (x ∷ a)
   then_plain {x} {a} h f = record { go = λ n flag. let i = f.go n in (i.0, λ rest. plain_step stop x n flag (a ++ rest) h ∙ i.1 rest) }
 
-  plainly : {x : Token} {a : Tokens} → is_plain x ≡ true → Passes stop a → Passes stop (x ∷ a)
+  pub plainly : {x : Token} {a : Tokens} → is_plain x ≡ true → Passes stop a → Passes stop (x ∷ a)
   plainly h f = then_plain h (weak f)
 
   then_arrow : {at : Position} {a : Tokens} → Passes stop a → Passes stop (Token.Sign m.Arrow at ∷ a)
@@ -179,10 +179,10 @@ module _ (stop : Stop) where
         (j.0, λ rest. q.opens ((a ++ rp ∷ b) ++ rest) ∙ ap (walk stop q.inside false) (append_assoc a (rp ∷ b) rest) ∙ i.1 (rp ∷ (b ++ rest)) ∙ q.closes i.0 (b ++ rest) ∙ j.1 rest);
   }
 
-  opened : (lp rp : Position) (a b : Tokens) → Begun stop a → Passes stop b → Passes stop (Token.Sign m.OpenRound lp ∷ (a ++ Token.Sign m.CloseRound rp ∷ b))
+  pub opened : (lp rp : Position) (a b : Tokens) → Begun stop a → Passes stop b → Passes stop (Token.Sign m.OpenRound lp ∷ (a ++ Token.Sign m.CloseRound rp ∷ b))
   opened lp rp a b f g = paired (Token.Sign m.OpenRound lp) (Token.Sign m.CloseRound rp) true a b (λ n flag. round_pair stop n flag lp rp) f (λ n. g.go n true)
 
-  chosen : (q c : Position) (a b : Tokens) → Begun stop a → Begun stop b → Passes stop (Token.Sign m.Question q ∷ (a ++ Token.Sign m.Colon c ∷ b))
+  pub chosen : (q c : Position) (a b : Tokens) → Begun stop a → Begun stop b → Passes stop (Token.Sign m.Question q ∷ (a ++ Token.Sign m.Colon c ∷ b))
   chosen q c a b f g = paired (Token.Sign m.Question q) (Token.Sign m.Colon c) false a b (λ n flag. choice_pair stop n flag q c) f (λ n. g.go n)
 
   curled : (lc rc : Position) (a : Tokens) → Begun stop a → Begun stop (Token.Sign m.OpenCurly lc ∷ (a ++ Token.Sign m.CloseCurly rc ∷ []))
@@ -194,22 +194,22 @@ module _ (stop : Stop) where
   }
 
   -- arguments, and the `)` behind them
-  args_opened : (lp rp : Position) (body : Option Span) (a : Tokens) → Begun stop a → Passes stop (Token.Sign m.OpenRound lp ∷ (a ++ args_close rp body ∷ []))
+  pub args_opened : (lp rp : Position) (body : Option Span) (a : Tokens) → Begun stop a → Passes stop (Token.Sign m.OpenRound lp ∷ (a ++ args_close rp body ∷ []))
   args_opened lp rp None a f = opened lp rp a [] f none
   args_opened lp rp (Some body) a f = paired (Token.Sign m.OpenRound lp) (Token.CloseBody rp body) false a [] (λ n flag. body_pair stop n flag lp rp body) f (λ n. (false, λ rest. refl))
 
   module _ (A : Type 0) (text : A → Tokens) (P : A → Type 0) (begins : (x : A) → P x → Begun stop (text x)) where
-    more_pass : (ps : List Position) (xs : List A) → AllByRecursion P xs → Passes stop (more_tokens ps (map text xs))
+    pub more_pass : (ps : List Position) (xs : List A) → AllByRecursion P xs → Passes stop (more_tokens ps (map text xs))
     more_pass [] xs all = none
     more_pass (p ∷ ps) [] all = none
     more_pass (p ∷ ps) (x ∷ xs) all = then_plain refl (begun (begins x all.0) (more_pass ps xs all.1))
 
-    listed_begun : (ps : List Position) (xs : List A) → AllByRecursion P xs → Begun stop (listed ps (map text xs))
+    pub listed_begun : (ps : List Position) (xs : List A) → AllByRecursion P xs → Begun stop (listed ps (map text xs))
     listed_begun ps [] all = nothing
     listed_begun ps (x ∷ xs) all = begun (begins x all.0) (more_pass ps xs all.1)
 
   module _ (A : Type 0) (text : A → Tokens) (P : A → Type 0) (passes : (x : A) → P x → Passes stop (text x)) where
-    listed_passes : (ps : List Position) (xs : List A) → AllByRecursion P xs → Passes stop (listed ps (map text xs))
+    pub listed_passes : (ps : List Position) (xs : List A) → AllByRecursion P xs → Passes stop (listed ps (map text xs))
     listed_passes ps [] all = none
     listed_passes ps (x ∷ xs) all = both (passes x all.0) (more_pass A text P (λ x h. weak (passes x h)) ps xs all.1)
 
