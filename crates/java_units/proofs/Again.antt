@@ -16,6 +16,8 @@ use Rattle.java_spelling.proofs.Sound.{close_only, colon_only}
 use Rattle.java_pieces.proofs.BodySteps.{pieces_none}
 use Rattle.java_heads.specs.declared.statements.JSimple.{JSimple}
 use Rattle.java_heads.specs.declared.statements.JForHead.{JForHead}
+use Rattle.java_heads.specs.declared.statements.JSwitchLabel.{JSwitchLabel}
+use Rattle.java_heads.specs.declared.statements.JSwitchLabel.TheVariants as label
 use Rattle.java_heads.specs.declared.statements.JLock.{JLock}
 use Rattle.java_heads.specs.Heads.{simple_tokens, for_tokens, lock_tokens, switch_tokens, SimpleStands, ForStands, LockStands, SwitchStands}
 use Rattle.java_heads.specs.Reading.{semicolon, simple_read, for_read, lock_read, switch_read}
@@ -591,3 +593,158 @@ module _ (P : ℕ → Node → Type 0) (R : r.Readers) (S : Agains P R) (d : ℕ
       let F : Tokens = Token.Word w.Finally last ∷ braced lc (map statement_tokens ys) rc in
       ap (r.try_read R d at) (append_assoc B (C ++ F) rest ∙ ap (λ (l : Tokens). B ++ l) (append_assoc C F rest))
       ∙ rw (block_again P R S d left xs right (C ++ (F ++ rest)) s, catches_again catches (F ++ rest) all refl, block_again P R S d lc ys rc rest t) refl
+
+  -- ---- any statement
+
+  statement_layer : (place : Role) (layer : Layer) (rest : Tokens) → statement_stands P d place layer → Follows (roll-JStatement layer) rest
+      → r.statement_step R d place (statement_tokens (roll-JStatement layer) ++ rest) ≡ Some (roll-JStatement layer, rest)
+  statement_layer place (JStatement-F.Simple x bodies end) rest s g =
+      carried place (JStatement-F.Simple x bodies end) (st.Simple x bodies end) _ rest (st.rolls-Simple x bodies end) (tokens_Simple x bodies end) (λ f. simple_again place x bodies end rest s.0 s.1 s.2) g
+  statement_layer place (JStatement-F.Block left xs right) rest s g =
+      carried place (JStatement-F.Block left xs right) (st.Block left xs right) _ rest (st.rolls-Block left xs right) (tokens_Block left xs right) (λ f. block_statement_again left xs right rest s) g
+  statement_layer place (JStatement-F.Labeled n at colon x) rest s g =
+      carried place (JStatement-F.Labeled n at colon x) (st.Labeled n at colon x) _ rest (st.rolls-Labeled n at colon x) (tokens_Labeled n at colon x) (λ f. labeled_again n at colon x rest s (record { handles = f.handles; shut = λ h. f.shut (open_Labeled n at colon x ∙ h) })) g
+  statement_layer place (JStatement-F.If at lp x bodies rp y) rest s g =
+      carried place (JStatement-F.If at lp x bodies rp y) (st.If at lp x bodies rp y) _ rest (st.rolls-If at lp x bodies rp y) (tokens_If at lp x bodies rp y) (λ f. if_again at lp x bodies rp y rest s.0 s.1 f.handles (f.shut (open_If at lp x bodies rp y))) g
+  statement_layer place (JStatement-F.IfElse at lp x bodies rp y else_at z) rest s g =
+      carried place (JStatement-F.IfElse at lp x bodies rp y else_at z) (st.IfElse at lp x bodies rp y else_at z) _ rest (st.rolls-IfElse at lp x bodies rp y else_at z) (tokens_IfElse at lp x bodies rp y else_at z) (λ f. if_else_again at lp x bodies rp y else_at z rest s.0 s.1 s.2 s.3 (record { handles = f.handles; shut = λ h. f.shut (open_IfElse at lp x bodies rp y else_at z ∙ h) })) g
+  statement_layer place (JStatement-F.While at lp x bodies rp y) rest s g =
+      carried place (JStatement-F.While at lp x bodies rp y) (st.While at lp x bodies rp y) _ rest (st.rolls-While at lp x bodies rp y) (tokens_While at lp x bodies rp y) (λ f. while_again at lp x bodies rp y rest s.0 s.1 (record { handles = f.handles; shut = λ h. f.shut (open_While at lp x bodies rp y ∙ h) })) g
+  statement_layer place (JStatement-F.Do at y while_at lp x bodies rp end) rest s g =
+      carried place (JStatement-F.Do at y while_at lp x bodies rp end) (st.Do at y while_at lp x bodies rp end) _ rest (st.rolls-Do at y while_at lp x bodies rp end) (tokens_Do at y while_at lp x bodies rp end) (λ f. do_again at y while_at lp x bodies rp end rest s.0 s.1) g
+  statement_layer place (JStatement-F.For at lp x bodies rp y) rest s g =
+      carried place (JStatement-F.For at lp x bodies rp y) (st.For at lp x bodies rp y) _ rest (st.rolls-For at lp x bodies rp y) (tokens_For at lp x bodies rp y) (λ f. loop_again at lp x bodies rp y rest s.0 s.1 s.2 (record { handles = f.handles; shut = λ h. f.shut (open_For at lp x bodies rp y ∙ h) })) g
+  statement_layer place (JStatement-F.Switch at lp x bodies rp left groups right) rest s g =
+      carried place (JStatement-F.Switch at lp x bodies rp left groups right) (st.Switch at lp x bodies rp left groups right) _ rest (st.rolls-Switch at lp x bodies rp left groups right) (tokens_Switch at lp x bodies rp left groups right) (λ f. switch_again at lp x bodies rp left groups right rest s.0 s.1 s.2) g
+  statement_layer place (JStatement-F.Synchronized at lp x bodies rp left ys right) rest s g =
+      carried place (JStatement-F.Synchronized at lp x bodies rp left ys right) (st.Synchronized at lp x bodies rp left ys right) _ rest (st.rolls-Synchronized at lp x bodies rp left ys right) (tokens_Synchronized at lp x bodies rp left ys right) (λ f. synchronized_again at lp x bodies rp left ys right rest s.0 s.1 s.2) g
+  statement_layer place (JStatement-F.Try at left xs right catches) rest s g =
+      carried place (JStatement-F.Try at left xs right catches) (st.Try at left xs right catches) _ rest (st.rolls-Try at left xs right catches) (tokens_Try at left xs right catches) (λ f. try_again at left xs right catches rest s.0 s.1 s.2 f.handles) g
+  statement_layer place (JStatement-F.TryFinally at left xs right catches last lc ys rc) rest s g =
+      carried place (JStatement-F.TryFinally at left xs right catches last lc ys rc) (st.TryFinally at left xs right catches last lc ys rc) _ rest (st.rolls-TryFinally at left xs right catches last lc ys rc) (tokens_TryFinally at left xs right catches last lc ys rc) (λ f. finally_again at left xs right catches last lc ys rc rest s.0 s.1 s.2) g
+
+  pub statement_again : (place : Role) (x : JStatement) (rest : Tokens) → node_stands P d (Node.Statement place x) → Follows x rest → r.statement_step R d place (statement_tokens x ++ rest) ≡ Some (x, rest)
+  statement_again place x rest s f =
+      let G : JStatement → Type 0 = λ z. Follows z rest → r.statement_step R d place (statement_tokens z ++ rest) ≡ Some (z, rest) in
+      subst G (roll-out-JStatement x) (statement_layer place (out-JStatement x) rest s) f
+
+  fresh_made : (layer : Layer) (x : JStatement) (text rest : Tokens) → roll-JStatement layer ≡ x → statement_tokens x ≡ text → Fresh (text ++ rest) → Fresh (statement_tokens (roll-JStatement layer) ++ rest)
+  fresh_made layer x text rest rolls spelled f = subst (λ (l : Tokens). Fresh (l ++ rest)) (sym (ap statement_tokens rolls ∙ spelled)) f
+
+  fresh_at : (x : Token) (ts : Tokens) → fresh x ≡ true → Fresh (x ∷ ts)
+  fresh_at x ts h = record { head = x; tail = ts; is = refl; fresh = h }
+
+  led_fresh : (ts : Tokens) → Led ts → Fresh ts
+  led_fresh ts f = record { head = f.head; tail = f.tail; is = f.is; fresh = leads_fresh f.head f.leads }
+
+  simple_fresh : (place : Role) (x : JSimple) (xs : List JBody) (end : Position) (rest : Tokens) → SimpleStands d x → HeadStands P d (simple_tokens x) (simple_levels x) xs
+      → Fresh ((filled (simple_tokens x) (map body_tokens xs) ++ Token.Sign m.Semicolon end ∷ []) ++ rest)
+  simple_fresh place x xs end rest s h =
+      let text : Tokens = filled (simple_tokens x) (map body_tokens xs) in
+      subst Fresh (sym (append_assoc text (Token.Sign m.Semicolon end ∷ []) rest)) (led_fresh _ (filled_leads (simple_tokens x) (map body_tokens xs) end rest (simple_leads d x end rest s) h.are.counted))
+
+  fresh_layer : (place : Role) (layer : Layer) (rest : Tokens) → statement_stands P d place layer → Fresh (statement_tokens (roll-JStatement layer) ++ rest)
+  fresh_layer place (JStatement-F.Simple x bodies end) rest s =
+      fresh_made (JStatement-F.Simple x bodies end) (st.Simple x bodies end) _ rest (st.rolls-Simple x bodies end) (tokens_Simple x bodies end) (simple_fresh place x bodies end rest s.1 s.2)
+  fresh_layer place (JStatement-F.Block left xs right) rest s =
+      fresh_made (JStatement-F.Block left xs right) (st.Block left xs right) _ rest (st.rolls-Block left xs right) (tokens_Block left xs right) (fresh_at _ _ refl)
+  fresh_layer place (JStatement-F.Labeled n at colon x) rest s =
+      fresh_made (JStatement-F.Labeled n at colon x) (st.Labeled n at colon x) _ rest (st.rolls-Labeled n at colon x) (tokens_Labeled n at colon x) (fresh_at _ _ refl)
+  fresh_layer place (JStatement-F.If at lp x bodies rp y) rest s =
+      fresh_made (JStatement-F.If at lp x bodies rp y) (st.If at lp x bodies rp y) _ rest (st.rolls-If at lp x bodies rp y) (tokens_If at lp x bodies rp y) (fresh_at _ _ refl)
+  fresh_layer place (JStatement-F.IfElse at lp x bodies rp y else_at z) rest s =
+      fresh_made (JStatement-F.IfElse at lp x bodies rp y else_at z) (st.IfElse at lp x bodies rp y else_at z) _ rest (st.rolls-IfElse at lp x bodies rp y else_at z) (tokens_IfElse at lp x bodies rp y else_at z) (fresh_at _ _ refl)
+  fresh_layer place (JStatement-F.While at lp x bodies rp y) rest s =
+      fresh_made (JStatement-F.While at lp x bodies rp y) (st.While at lp x bodies rp y) _ rest (st.rolls-While at lp x bodies rp y) (tokens_While at lp x bodies rp y) (fresh_at _ _ refl)
+  fresh_layer place (JStatement-F.Do at y while_at lp x bodies rp end) rest s =
+      fresh_made (JStatement-F.Do at y while_at lp x bodies rp end) (st.Do at y while_at lp x bodies rp end) _ rest (st.rolls-Do at y while_at lp x bodies rp end) (tokens_Do at y while_at lp x bodies rp end) (fresh_at _ _ refl)
+  fresh_layer place (JStatement-F.For at lp x bodies rp y) rest s =
+      fresh_made (JStatement-F.For at lp x bodies rp y) (st.For at lp x bodies rp y) _ rest (st.rolls-For at lp x bodies rp y) (tokens_For at lp x bodies rp y) (fresh_at _ _ refl)
+  fresh_layer place (JStatement-F.Switch at lp x bodies rp left groups right) rest s =
+      fresh_made (JStatement-F.Switch at lp x bodies rp left groups right) (st.Switch at lp x bodies rp left groups right) _ rest (st.rolls-Switch at lp x bodies rp left groups right) (tokens_Switch at lp x bodies rp left groups right) (fresh_at _ _ refl)
+  fresh_layer place (JStatement-F.Synchronized at lp x bodies rp left ys right) rest s =
+      fresh_made (JStatement-F.Synchronized at lp x bodies rp left ys right) (st.Synchronized at lp x bodies rp left ys right) _ rest (st.rolls-Synchronized at lp x bodies rp left ys right) (tokens_Synchronized at lp x bodies rp left ys right) (fresh_at _ _ refl)
+  fresh_layer place (JStatement-F.Try at left xs right catches) rest s =
+      fresh_made (JStatement-F.Try at left xs right catches) (st.Try at left xs right catches) _ rest (st.rolls-Try at left xs right catches) (tokens_Try at left xs right catches) (fresh_at _ _ refl)
+  fresh_layer place (JStatement-F.TryFinally at left xs right catches last lc ys rc) rest s =
+      fresh_made (JStatement-F.TryFinally at left xs right catches last lc ys rc) (st.TryFinally at left xs right catches last lc ys rc) _ rest (st.rolls-TryFinally at left xs right catches last lc ys rc) (tokens_TryFinally at left xs right catches last lc ys rc) (fresh_at _ _ refl)
+
+  pub statement_fresh : (place : Role) (x : JStatement) (rest : Tokens) → node_stands P d (Node.Statement place x) → Fresh (statement_tokens x ++ rest)
+  statement_fresh place x rest s = subst (λ (z : JStatement). Fresh (statement_tokens z ++ rest)) (roll-out-JStatement x) (fresh_layer place (out-JStatement x) rest s)
+
+  -- ---- bodies
+
+  body_layer : (x : JBody-F JBody JMember JStatement JCase JCaseGroup JCatch) → body_stands P d x → r.body_step R d (is_block (roll-JBody x)) (body_tokens (roll-JBody x)) ≡ Some (roll-JBody x)
+  unfolding r.body_step
+  body_layer (JBody-F.Statements xs) s =
+      let T : Tokens = joined (map statement_tokens xs) in
+      let kind : is_block (body.Statements xs) ≡ true = ap is_block_by (out_body (JBody-F.Statements xs) (body.Statements xs) (body.rolls-Statements xs)) in
+      let a = until_again JStatement statement_tokens (λ x. P d (Node.Statement Role.Inner x)) r.is_end (R.statement d Role.Inner) goes_on (inner_items P R S d r.is_end fresh_end) xs [] s refl refl in
+      let b : r.until r.is_end (R.statement d Role.Inner) T ≡ Some (xs, []) = ap (r.until r.is_end (R.statement d Role.Inner)) (sym (append-nil T)) ∙ a in
+      subst (λ (z : JBody). r.body_step R d (is_block z) (body_tokens z) ≡ Some z) (sym (body.rolls-Statements xs))
+      (ap (λ k. r.body_step R d k (body_tokens (body.Statements xs))) kind ∙ ap (r.body_step R d true) (tokens_Statements xs) ∙ rw b refl)
+  body_layer (JBody-F.Members xs) s =
+      let T : Tokens = joined (map whole_member_tokens xs) in
+      let owner : Owner = Owner.Class None in
+      let kind : is_block (body.Members xs) ≡ false = ap is_block_by (out_body (JBody-F.Members xs) (body.Members xs) (body.rolls-Members xs)) in
+      let a = until_again JMember whole_member_tokens (λ x. P (suc d) (Node.Member owner x)) r.is_end (R.member (suc d) owner) (λ ts. true) (member_items (suc d) owner) xs [] s refl refl in
+      let b : r.until r.is_end (R.member (suc d) owner) T ≡ Some (xs, []) = ap (r.until r.is_end (R.member (suc d) owner)) (sym (append-nil T)) ∙ a in
+      subst (λ (z : JBody). r.body_step R d (is_block z) (body_tokens z) ≡ Some z) (sym (body.rolls-Members xs))
+      (ap (λ k. r.body_step R d k (body_tokens (body.Members xs))) kind ∙ ap (r.body_step R d false) (tokens_Members xs) ∙ rw b refl)
+    where
+      runs : (ts rest : Tokens) → 1 ≤ length ts → r.is_end (ts ++ rest) ≡ false
+      runs [] rest h = absurd (omega (arith, h))
+      runs (t ∷ ts) rest h = refl
+      member_items : (e : ℕ) (owner : Owner) → Items JMember whole_member_tokens (λ x. P e (Node.Member owner x)) r.is_end (R.member e owner) (λ ts. true)
+      member_items e owner = record {
+        reads = λ x s rest h. S.member e owner x s rest;
+        full = λ x s. (S.member_begins e owner x s).full;
+        runs = λ x s rest. runs (whole_member_tokens x) rest (S.member_begins e owner x s).full;
+        follows = λ x s rest. refl;
+      }
+
+  pub body_again : (x : JBody) → node_stands P d (Node.Body x) → r.body_step R d (is_block x) (body_tokens x) ≡ Some x
+  body_again x s = subst (λ (z : JBody). r.body_step R d (is_block z) (body_tokens z) ≡ Some z) (roll-out-JBody x) (body_layer (out-JBody x) s)
+
+  -- ---- labels
+
+  abbrev CaseLayer : Type 0
+  CaseLayer = JCase-F JBody JMember JStatement JCase JCaseGroup JCatch
+
+  label_by : (x : CaseLayer) (text : Tokens) (at : Position) (rest : Tokens) → switch_tokens x.label ≡ text ++ Token.Sign m.Colon at ∷ [] → Passes Stop.Colon text → case_stands P d x
+      → r.label_step R d (case_tokens (roll-JCase x) ++ rest) ≡ Some (roll-JCase x, rest)
+  unfolding r.label_step
+  label_by x text at rest same passes s =
+      let z : Tokens = Token.Sign m.Colon at ∷ [] in
+      let t : Tail z = mark_tail m.Colon at refl in
+      let bs : List Tokens = map body_tokens x.bodies in
+      let F : Tokens → Type 0 = λ l. HeadStands P d l (switch_levels x.label) x.bodies in
+      let h : HeadStands P d (text ++ z) (switch_levels x.label) x.bodies = subst F same s.1 in
+      let counted : map length bs ≡ counts text = h.are.counted ∙ counts_end text z t in
+      let fill = filled_end text z bs t counted in
+      let p : pieces (length (filled text bs ++ z)) (filled text bs ++ z) ≡ text ++ z = ap (λ (l : Tokens). pieces (length l) l) (sym fill) ∙ sym h.are.numbered in
+      let ends : Ends Stop.Colon (z ++ rest) = record { head = Token.Sign m.Colon at; tail = rest; is = refl; closes = refl } in
+      let c = cut_kept Stop.Colon text bs z rest z (passed Stop.Colon text passes) ends counted p in
+      let law = switch_is_read (suc d) (text ++ z) x.label s.0 same in
+      let b = bodies_again P R S d (switch_levels x.label) (spans text) x.bodies (h.are.each ∙ spans_end text z t) h.stand in
+      ap (λ (l : Tokens). r.label_step R d (l ++ rest)) (tokens_Case x ∙ ap (λ (l : Tokens). filled l bs) same ∙ fill) ∙ ap (r.label_step R d) (append_assoc (filled text bs) z rest) ∙ rw (c, law, b) refl
+
+  label_layer : (label : JSwitchLabel) (x : CaseLayer) (rest : Tokens) → x.label ≡ label → SwitchStands (suc d) label → case_stands P d x → r.label_step R d (case_tokens (roll-JCase x) ++ rest) ≡ Some (roll-JCase x, rest)
+  unfolding SwitchStands
+  label_layer (label.Case at value colon) x rest is good s =
+      label_by x (Token.Word w.Case at ∷ tokens value) colon rest (ap switch_tokens is) (plainly Stop.Colon refl (expr_passes Stop.Colon d value good)) s
+  label_layer (label.Default at colon) x rest is good s = label_by x (Token.Word w.Default at ∷ []) colon rest (ap switch_tokens is) (plainly Stop.Colon refl (none Stop.Colon)) s
+
+  pub label_again : (x : JCase) (rest : Tokens) → node_stands P d (Node.Case x) → r.label_step R d (case_tokens x ++ rest) ≡ Some (x, rest)
+  label_again x rest s =
+      subst (λ (z : JCase). r.label_step R d (case_tokens z ++ rest) ≡ Some (z, rest)) (roll-out-JCase x) (label_layer (out-JCase x).label (out-JCase x) rest refl s.0 s)
+
+  label_first : (label : JSwitchLabel) (bs : List Tokens) (rest : Tokens) → r.begins_case (filled (switch_tokens label) bs ++ rest) ≡ true
+  label_first (label.Case at value end) bs rest = refl
+  label_first (label.Default at end) bs rest = refl
+
+  pub case_begins : (x : JCase) (rest : Tokens) → r.begins_case (case_tokens x ++ rest) ≡ true
+  case_begins x rest =
+      let y = out-JCase x in
+      subst (λ (z : JCase). r.begins_case (case_tokens z ++ rest) ≡ true) (roll-out-JCase x)
+      (ap (λ (l : Tokens). r.begins_case (l ++ rest)) (tokens_Case y) ∙ label_first y.label (map body_tokens y.bodies) rest)
