@@ -6,3 +6,4 @@ pub mod MemberSound
 pub mod Soundness
 pub mod Starts
 pub mod Again
+pub mod Quiet
