@@ -196,11 +196,11 @@ at_group (Token.Literal x at) ts h = refl
 at_group (Token.ArrowBody at span) ts h = refl
 at_group (Token.CloseBody at span) ts h = refl
 
-group_close : (ts : Tokens) → r.ends_group ts ≡ false → r.begins_close ts ≡ false
+pub group_close : (ts : Tokens) → r.ends_group ts ≡ false → r.begins_close ts ≡ false
 group_close (Token.Sign m.CloseCurly at ∷ ts) h = absurd (cc h)
 group_close _ h = refl
 
-group_case : (ts : Tokens) → r.ends_group ts ≡ false → r.begins_case ts ≡ false
+pub group_case : (ts : Tokens) → r.ends_group ts ≡ false → r.begins_case ts ≡ false
 group_case (Token.Word w.Case at ∷ ts) h = absurd (cc h)
 group_case (Token.Word w.Default at ∷ ts) h = absurd (cc h)
 group_case _ h = refl
@@ -245,7 +245,7 @@ pub record Agains (P : ℕ → Node → Type 0) (R : r.Readers) : Type 0 where
 module _ (P : ℕ → Node → Type 0) (R : r.Readers) (S : Agains P R) where
   -- ---- heads
 
-  bodies_again : (d : ℕ) (ls : Levels) (ks : List Bool) (xs : List JBody) → map is_block xs ≡ ks → bodies_stand P d ls xs → r.bodies_by R.body d ls ks (map body_tokens xs) ≡ Some xs
+  pub bodies_again : (d : ℕ) (ls : Levels) (ks : List Bool) (xs : List JBody) → map is_block xs ≡ ks → bodies_stand P d ls xs → r.bodies_by R.body d ls ks (map body_tokens xs) ≡ Some xs
   bodies_again d ls ks [] h s = refl
   bodies_again d [] ks (x ∷ xs) h s = absurd s
   bodies_again d (n ∷ ls) [] (x ∷ xs) h s = absurd (cc h)
@@ -278,7 +278,7 @@ module _ (P : ℕ → Node → Type 0) (R : r.Readers) (S : Agains P R) where
 
   -- ---- blocks
 
-  inner_items : (d : ℕ) (stop : Tokens → Bool) → ((ts : Tokens) → Fresh ts → stop ts ≡ false) → Items JStatement statement_tokens (λ x. P d (Node.Statement Role.Inner x)) stop (R.statement d Role.Inner) goes_on
+  pub inner_items : (d : ℕ) (stop : Tokens → Bool) → ((ts : Tokens) → Fresh ts → stop ts ≡ false) → Items JStatement statement_tokens (λ x. P d (Node.Statement Role.Inner x)) stop (R.statement d Role.Inner) goes_on
   inner_items d stop runs = record {
     reads = λ x s rest h. S.statement d Role.Inner x s rest (on_follows x rest h);
     full = λ x s. fresh_full (statement_tokens x) (S.fresh d Role.Inner x s []);

@@ -7,3 +7,5 @@ pub mod Soundness
 pub mod Starts
 pub mod Again
 pub mod Quiet
+pub mod MemberAgain
+pub mod Theorem
