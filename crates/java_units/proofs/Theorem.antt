@@ -9,10 +9,10 @@ use Rattle.java_units.specs.declared.statements.JCase.{JCase}
 use Rattle.java_units.specs.declared.statements.JMember.{JMember}
 use Rattle.java_units.specs.declared.statements.JStatement.{JStatement}
 use Rattle.java_units.specs.Tokens.{joined, whole_member_tokens, statement_tokens, body_tokens}
-use Rattle.java_units.specs.Standing.{Role, Owner, Node, NodeStands, is_block}
+use Rattle.java_units.specs.Standing.{Role, Owner, Node, NodeStands, is_block, StatementSpells, StatementsSpell, MembersSpell}
 use Rattle.java_units.specs.Reading as r
 use Rattle.java_units.proofs.Texts.{case_tokens}
-use Rattle.java_units.proofs.Again.{Agains, Follows, Fresh, Member_begins, statement_again, statement_fresh, body_again, label_again, case_begins, inner_items, until_again, goes_on, fresh_end}
+use Rattle.java_units.proofs.Again.{Items, Agains, Follows, Fresh, Member_begins, statement_again, statement_fresh, body_again, label_again, case_begins, inner_items, until_again, goes_on, fresh_end}
 use Rattle.java_units.proofs.MemberAgain.{member_again, inner_begins}
 
 nothing : (d : ℕ) (x : Node) → NodeStands 0 d x → ⊥
@@ -80,3 +80,42 @@ agains (suc n) = record {
 pub statement_is_read : (n d : ℕ) (place : Role) (x : JStatement) (rest : Tokens) → NodeStands n d (Node.Statement place x) → Follows x rest → r.statement_read n d place (statement_tokens x ++ rest) ≡ Some (x, rest)
 unfolding r.statement_read
 statement_is_read n d place x rest s f = (agains n).statement d place x s rest f
+
+ends_follows : (x : JStatement) → Follows x []
+ends_follows x = record { handles = refl; shut = λ h. refl }
+
+read_whole : (n d : ℕ) (place : Role) (x : JStatement) (ts : Tokens) → StatementSpells n d place x ts → r.statement_read n d place ts ≡ Some (x, [])
+read_whole n d place x ts s = ap (r.statement_read n d place) (sym s.same ∙ sym (append-nil (statement_tokens x))) ∙ statement_is_read n d place x [] s.stands (ends_follows x)
+
+pub statement_one : (n d : ℕ) (place : Role) (x y : JStatement) (ts : Tokens) → StatementSpells n d place x ts → StatementSpells n d place y ts → x ≡ y
+statement_one n d place x y ts s t = ap (λ (z : JStatement × Tokens). z.0) (some_same (sym (read_whole n d place x ts s) ∙ read_whole n d place y ts t))
+
+list_whole : (n d : ℕ) (xs : List JStatement) (ts : Tokens) → StatementsSpell n d xs ts → r.until r.is_end ((r.readers n).statement d Role.Inner) ts ≡ Some (xs, [])
+list_whole n d xs ts s =
+    let item = (r.readers n).statement d Role.Inner in
+    ap (r.until r.is_end item) (sym s.same ∙ sym (append-nil (joined (map statement_tokens xs))))
+    ∙ until_again JStatement statement_tokens (λ x. NodeStands n d (Node.Statement Role.Inner x)) r.is_end item goes_on (inner_items (NodeStands n) (r.readers n) (agains n) d r.is_end fresh_end) xs [] s.stand refl refl
+
+pub statements_one : (n d : ℕ) (xs ys : List JStatement) (ts : Tokens) → StatementsSpell n d xs ts → StatementsSpell n d ys ts → xs ≡ ys
+statements_one n d xs ys ts s t = ap (λ (z : List JStatement × Tokens). z.0) (some_same (sym (list_whole n d xs ts s) ∙ list_whole n d ys ts t))
+
+runs : (ts rest : Tokens) → 1 ≤ length ts → r.is_end (ts ++ rest) ≡ false
+runs [] rest h = absurd (omega (arith, h))
+runs (t ∷ ts) rest h = refl
+
+member_items : (n d : ℕ) (owner : Owner) → Items JMember whole_member_tokens (λ x. NodeStands n d (Node.Member owner x)) r.is_end ((r.readers n).member d owner) (λ ts. true)
+member_items n d owner = record {
+  reads = λ x s rest h. (agains n).member d owner x s rest;
+  full = λ x s. ((agains n).member_begins d owner x s).full;
+  runs = λ x s rest. runs (whole_member_tokens x) rest ((agains n).member_begins d owner x s).full;
+  follows = λ x s rest. refl;
+}
+
+members_whole : (n d : ℕ) (xs : List JMember) (ts : Tokens) → MembersSpell n d xs ts → r.until r.is_end ((r.readers n).member d (Owner.Class None)) ts ≡ Some (xs, [])
+members_whole n d xs ts s =
+    let item = (r.readers n).member d (Owner.Class None) in
+    ap (r.until r.is_end item) (sym s.same ∙ sym (append-nil (joined (map whole_member_tokens xs))))
+    ∙ until_again JMember whole_member_tokens (λ x. NodeStands n d (Node.Member (Owner.Class None) x)) r.is_end item (λ ts. true) (member_items n d (Owner.Class None)) xs [] s.stand refl refl
+
+pub members_one : (n d : ℕ) (xs ys : List JMember) (ts : Tokens) → MembersSpell n d xs ts → MembersSpell n d ys ts → xs ≡ ys
+members_one n d xs ys ts s t = ap (λ (z : List JMember × Tokens). z.0) (some_same (sym (members_whole n d xs ts s) ∙ members_whole n d ys ts t))

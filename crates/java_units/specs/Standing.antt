@@ -26,7 +26,7 @@ use Rattle.java_units.specs.declared.statements.JCatch.{JCatch, out-JCatch}
 use Rattle.java_units.specs.declared.statements.JMember.{JMember, out-JMember}
 use Rattle.java_units.specs.declared.statements.JStatement.{JStatement, out-JStatement, fold-JStatement}
 use Rattle.java_units.specs.declared.statements.JBody.TheOpen.{JBody-F, JCase-F, JCaseGroup-F, JCatch-F, JMember-F, JStatement-F}
-use Rattle.java_units.specs.Tokens.{filled, body_tokens, unit_tokens}
+use Rattle.java_units.specs.Tokens.{joined, filled, body_tokens, statement_tokens, whole_member_tokens, unit_tokens}
 use Rattle.java_units.specs.declared.units.JUnit.{JUnit}
 use Rattle.java_units.specs.Levels.{Levels, all_levels, value_levels, levels, simple_levels, for_levels, lock_levels, switch_levels, declaration_levels, constants_levels}
 
@@ -235,6 +235,21 @@ unfoldable pub NodeStands : ℕ → ℕ → Node → Type 0
 NodeStands zero d x = ⊥
 NodeStands (suc n) zero x = ⊥
 NodeStands (suc n) (suc d) x = node_stands (NodeStands n) d x
+
+-- The statement spells the tokens, with a depth of at most d.
+pub record StatementSpells (n d : ℕ) (place : Role) (x : JStatement) (text : Tokens) : Type 0 where
+  pub stands : NodeStands n d (Node.Statement place x)
+  pub same : statement_tokens x ≡ text
+
+-- The statements spell the tokens between the braces of a block, each with a depth of at most d.
+pub record StatementsSpell (n d : ℕ) (xs : List JStatement) (text : Tokens) : Type 0 where
+  pub stand : all_stand (NodeStands n) d Role.Inner xs
+  pub same : joined (map statement_tokens xs) ≡ text
+
+-- The members spell the tokens of the body of an anonymous class, each with a depth of at most d.
+pub record MembersSpell (n d : ℕ) (xs : List JMember) (text : Tokens) : Type 0 where
+  pub stand : AllByRecursion (λ x. NodeStands n d (Node.Member (Owner.Class None) x)) xs
+  pub same : joined (map whole_member_tokens xs) ≡ text
 
 -- ---- members that stand in no expression: their bodies and initializers at depth 1
 
