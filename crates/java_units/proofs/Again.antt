@@ -1,41 +1,37 @@
 -- What stands is read again.
-use Rattle.std.proofs.Common.{◌≡◌, ◌≤◌, ◌-◌, ℕ, zero, suc, Bool, true, false, not, if◌then◌else◌, List, [], ◌∷◌, ◌++◌, length, map, Option, Some, None, inl, inr, refl, ap, sym, ◌∙◌, subst, append_assoc, arith}
+use Rattle.std.proofs.Common.{◌≡◌, ◌≤◌, ◌-◌, ℕ, zero, suc, Bool, true, false, not, List, [], ◌∷◌, ◌++◌, length, map, Option, Some, None, refl, ap, sym, ◌∙◌, subst, append_assoc, arith}
 use Rattle.std.specs.List.{AllByRecursion}
-use Rattle.std.proofs.lemmas.List.{append-nil, length-append, length-map}
+use Rattle.std.proofs.lemmas.List.{append-nil, length-append}
 use Rattle.java_tree.specs.declared.tokens.Position.{Position}
 use Rattle.java_tree.specs.declared.tokens.Mark.TheVariants as m
 use Rattle.java_tree.specs.declared.tokens.Keyword.{Keyword}
 use Rattle.java_tree.specs.declared.tokens.Keyword.TheVariants as w
 use Rattle.java_tree.specs.Seen.{Token, Tokens, pieces}
 use Rattle.java_tree.specs.declared.exprs.JExpr.{JExpr}
-use Rattle.java_tree.specs.Trees.{tokens, typed_tokens, any_level, Stands, TypeStands, TypedStands}
-use Rattle.java_reading.specs.Reading.{Read, Reader, ◌>>=◌, whole, open_round, close, colon, open_curly, typed_read, read}
-use Rattle.java_reading.proofs.Tools.{bind_some, guard_some, cond_is, some_same}
-use Rattle.java_spelling.proofs.TypeLaws.{typed_sound}
-use Rattle.java_spelling.proofs.Sound.{close_only, colon_only}
-use Rattle.java_pieces.proofs.BodySteps.{pieces_none}
+use Rattle.java_tree.specs.Trees.{tokens, typed_tokens, any_level, TypedStands}
+use Rattle.java_reading.specs.Reading.{Reader, whole, colon, read}
 use Rattle.java_heads.specs.declared.statements.JSimple.{JSimple}
 use Rattle.java_heads.specs.declared.statements.JForHead.{JForHead}
 use Rattle.java_heads.specs.declared.statements.JSwitchLabel.{JSwitchLabel}
 use Rattle.java_heads.specs.declared.statements.JSwitchLabel.TheVariants as label
 use Rattle.java_heads.specs.declared.statements.JLock.{JLock}
 use Rattle.java_heads.specs.Heads.{simple_tokens, for_tokens, lock_tokens, switch_tokens, SimpleStands, ForStands, LockStands, SwitchStands}
-use Rattle.java_heads.specs.Reading.{semicolon, simple_read, for_read, lock_read, switch_read}
+use Rattle.java_heads.specs.Reading.{simple_read, for_read, lock_read}
 use Rattle.java_units.specs.declared.statements.JBody.{JBody, out-JBody, roll-JBody}
 use Rattle.java_units.specs.declared.statements.JBody.TheVariants as body
-use Rattle.java_units.specs.declared.statements.JCase.{JCase, roll-JCase, out-JCase, out-roll-JCase}
-use Rattle.java_units.specs.declared.statements.JCaseGroup.{JCaseGroup, roll-JCaseGroup, out-JCaseGroup, out-roll-JCaseGroup}
-use Rattle.java_units.specs.declared.statements.JCatch.{JCatch, roll-JCatch, out-JCatch, out-roll-JCatch}
+use Rattle.java_units.specs.declared.statements.JCase.{JCase, roll-JCase, out-JCase}
+use Rattle.java_units.specs.declared.statements.JCaseGroup.{JCaseGroup, roll-JCaseGroup, out-JCaseGroup}
+use Rattle.java_units.specs.declared.statements.JCatch.{JCatch, roll-JCatch, out-JCatch}
 use Rattle.java_units.specs.declared.statements.JMember.{JMember}
 use Rattle.java_units.specs.declared.statements.JStatement.{JStatement, roll-JStatement, out-JStatement}
 use Rattle.java_units.specs.declared.statements.JStatement.TheVariants as st
-use Rattle.java_units.specs.declared.statements.JBody.TheOpen.{JBody-F, JCase-F, JCaseGroup-F, JCatch-F, JMember-F, JStatement-F}
+use Rattle.java_units.specs.declared.statements.JBody.TheOpen.{JBody-F, JCase-F, JCaseGroup-F, JCatch-F, JStatement-F}
 use Rattle.java_units.specs.Tokens.{joined, filled, braced, headed, statement_tokens, body_tokens, whole_member_tokens}
-use Rattle.java_units.specs.Levels.{Levels, levels, simple_levels, for_levels, lock_levels, switch_levels}
-use Rattle.java_units.specs.Cutting.{Stop, Cut, cut}
-use Rattle.java_units.specs.Standing.{ends_open, Role, may_stand, Owner, is_block, is_block_by, spans, counts, AreBodies, Node, bodies_stand, HeadStands, all_stand, first_stand, block_stands, first_block_stands, case_stands, group_stands, full_before, catch_stands, condition_stands, statement_stands, body_stands, node_stands}
+use Rattle.java_units.specs.Levels.{Levels, simple_levels, for_levels, lock_levels, switch_levels}
+use Rattle.java_units.specs.Cutting.{Stop}
+use Rattle.java_units.specs.Standing.{ends_open, Role, may_stand, Owner, is_block, is_block_by, spans, counts, Node, bodies_stand, HeadStands, all_stand, block_stands, case_stands, group_stands, full_before, catch_stands, condition_stands, statement_stands, body_stands, node_stands}
 use Rattle.java_units.specs.Reading as r
-use Rattle.java_units.proofs.Texts.{case_tokens, group_tokens, catch_tokens, tokens_Simple, tokens_Block, tokens_Labeled, tokens_If, tokens_IfElse, tokens_While, tokens_Do, tokens_For, tokens_Switch, tokens_Synchronized, tokens_Try, tokens_TryFinally, tokens_Statements, tokens_Members, tokens_Case, tokens_CaseGroup, tokens_Catch, out_statement, out_body, open_Simple, open_Block, open_Labeled, open_If, open_IfElse, open_While, open_Do, open_For, open_Switch, open_Synchronized, open_Try, open_TryFinally}
+use Rattle.java_units.proofs.Texts.{case_tokens, group_tokens, catch_tokens, tokens_Simple, tokens_Block, tokens_Labeled, tokens_If, tokens_IfElse, tokens_While, tokens_Do, tokens_For, tokens_Switch, tokens_Synchronized, tokens_Try, tokens_TryFinally, tokens_Statements, tokens_Members, tokens_Case, tokens_CaseGroup, tokens_Catch, out_body, open_Labeled, open_If, open_IfElse, open_While, open_For}
 use Rattle.java_heads.proofs.Whole.{read_again}
 use Rattle.java_heads.proofs.Simple.{simple_is_read}
 use Rattle.java_heads.proofs.Loops.{for_is_read}
@@ -47,9 +43,9 @@ use Rattle.java_units.specs.declared.statements.JCatch.{roll-out-JCatch}
 use Rattle.java_units.specs.declared.statements.JBody.{roll-out-JBody}
 use Rattle.java_units.specs.declared.statements.JStatement.{roll-out-JStatement}
 use Rattle.java_units.proofs.Sound.{begins_else}
-use Rattle.java_units.proofs.Cuts.{walk, Ends, cut_kept, Tail, mark_tail, spans_end, counts_end, filled_end}
-use Rattle.java_units.proofs.Passing.{Passes, passed, both, plainly, none, expr_passes, simple_passes, lock_passes, for_passes}
-use Rattle.java_units.proofs.Starts.{leads, leads_word, Led, simple_leads, filled_leads, filled_simple, goes_simple, step_simple}
+use Rattle.java_units.proofs.Cuts.{Ends, cut_kept, Tail, mark_tail, spans_end, counts_end, filled_end}
+use Rattle.java_units.proofs.Passing.{Passes, passed, plainly, none, expr_passes, simple_passes, lock_passes, for_passes}
+use Rattle.java_units.proofs.Starts.{leads, leads_word, Led, simple_leads, filled_leads, filled_simple, step_simple}
 
 -- ---- lists
 
@@ -371,8 +367,8 @@ module _ (P : ℕ → Node → Type 0) (R : r.Readers) (S : Agains P R) (d : ℕ
       let tail : Tokens = Token.Word w.Else else_at ∷ (statement_tokens z ++ rest) in
       let then_follows : Follows y tail = record { handles = refl; shut = λ g. let e = sym closed ∙ g in absurd (cc e) } in
       ap (r.if_read R d at) (
-        behind_round lp (shown x xs) rp (statement_tokens y ++ Token.Word w.Else else_at ∷ statement_tokens z) rest
-        ∙ ap (λ (l : Tokens). Token.Sign m.OpenRound lp ∷ (shown x xs ++ Token.Sign m.CloseRound rp ∷ l)) (append_assoc (statement_tokens y) (Token.Word w.Else else_at ∷ statement_tokens z) rest)
+      behind_round lp (shown x xs) rp (statement_tokens y ++ Token.Word w.Else else_at ∷ statement_tokens z) rest
+      ∙ ap (λ (l : Tokens). Token.Sign m.OpenRound lp ∷ (shown x xs ++ Token.Sign m.CloseRound rp ∷ l)) (append_assoc (statement_tokens y) (Token.Word w.Else else_at ∷ statement_tokens z) rest)
       )
       ∙ rw (condition_again lp x xs rp (statement_tokens y ++ tail) s, sole_again y tail t then_follows, sole_again z rest u f) refl
 
@@ -397,8 +393,8 @@ module _ (P : ℕ → Node → Type 0) (R : r.Readers) (S : Agains P R) (d : ℕ
       let tail : Tokens = Token.Word w.While while_at ∷ Token.Sign m.OpenRound lp ∷ (shown x xs ++ Token.Sign m.CloseRound rp ∷ Token.Sign m.Semicolon end ∷ rest) in
       let f : Follows y tail = record { handles = refl; shut = λ g. refl } in
       ap (r.do_read R d at) (
-        append_assoc (statement_tokens y) (headed (Token.Word w.While while_at) lp (shown x xs) rp (Token.Sign m.Semicolon end ∷ [])) rest
-        ∙ ap (λ (l : Tokens). statement_tokens y ++ Token.Word w.While while_at ∷ l) (behind_round lp (shown x xs) rp (Token.Sign m.Semicolon end ∷ []) rest)
+      append_assoc (statement_tokens y) (headed (Token.Word w.While while_at) lp (shown x xs) rp (Token.Sign m.Semicolon end ∷ [])) rest
+      ∙ ap (λ (l : Tokens). statement_tokens y ++ Token.Word w.While while_at ∷ l) (behind_round lp (shown x xs) rp (Token.Sign m.Semicolon end ∷ []) rest)
       )
       ∙ rw (sole_again y tail t f, condition_again lp x xs rp (Token.Sign m.Semicolon end ∷ rest) s) refl
 
@@ -466,7 +462,7 @@ module _ (P : ℕ → Node → Type 0) (R : r.Readers) (S : Agains P R) (d : ℕ
       let T : Tokens = joined (map statement_tokens y.statements) in
       let G : JCaseGroup → Type 0 = λ z. r.begins_case (group_tokens z ++ rest) ≡ true in
       subst G (roll-out-JCaseGroup x) (
-        ap (λ (l : Tokens). r.begins_case (l ++ rest)) (tokens_CaseGroup y) ∙ ap r.begins_case (append_assoc (joined (map case_tokens y.labels)) T rest) ∙ labels_begin y.labels (T ++ rest) s.0 s.1
+      ap (λ (l : Tokens). r.begins_case (l ++ rest)) (tokens_CaseGroup y) ∙ ap r.begins_case (append_assoc (joined (map case_tokens y.labels)) T rest) ∙ labels_begin y.labels (T ++ rest) s.0 s.1
       )
 
   case_group : (ts : Tokens) → r.begins_case ts ≡ true → r.ends_group ts ≡ true
@@ -695,6 +691,7 @@ module _ (P : ℕ → Node → Type 0) (R : r.Readers) (S : Agains P R) (d : ℕ
       runs : (ts rest : Tokens) → 1 ≤ length ts → r.is_end (ts ++ rest) ≡ false
       runs [] rest h = absurd (omega (arith, h))
       runs (t ∷ ts) rest h = refl
+
       member_items : (e : ℕ) (owner : Owner) → Items JMember whole_member_tokens (λ x. P e (Node.Member owner x)) r.is_end (R.member e owner) (λ ts. true)
       member_items e owner = record {
         reads = λ x s rest h. S.member e owner x s rest;

@@ -1,18 +1,18 @@
 -- What is cut off: the head with its bodies; and a head is cut off before what ends it.
 use Rattle.std.proofs.Common.{◌≡◌, ◌≤◌, ◌+◌, ◌-◌, ℕ, zero, suc, Bool, true, false, ◌&&◌, List, [], ◌∷◌, ◌++◌, length, map, take, drop, Option, Some, None, inl, inr, refl, ap, sym, ◌∙◌, subst, append_assoc, arith}
-use Rattle.std.proofs.lemmas.List.{append-nil, length-append}
+use Rattle.std.proofs.lemmas.List.{length-append}
 use Rattle.std.proofs.Math.Seq.{take-append_seam}
 use Rattle.java_tree.specs.declared.tokens.Position.{Position}
 use Rattle.java_tree.specs.declared.tokens.Mark.{Mark}
 use Rattle.java_tree.specs.declared.tokens.Mark.TheVariants as m
 use Rattle.java_tree.specs.declared.exprs.Span.{Span}
 use Rattle.java_tree.specs.Seen.{Token, Tokens, from_closing, body, body_by, joins, piece, pieces}
-use Rattle.java_reading.specs.Reading.{◌>>=◌, maybe}
+use Rattle.java_reading.specs.Reading.{◌>>=◌}
 use Rattle.java_reading.proofs.Tools.{bind_some, maybe_is, some_same}
 use Rattle.java_pieces.proofs.BodySteps.{pieces_more, pieces_none}
 use Rattle.java_units.specs.Tokens.{filled}
 use Rattle.java_units.specs.Standing.{spans, counts}
-use Rattle.java_units.specs.Cutting.{Stop, Weight, weight, token_weight, turn, is_raw, behind, with_span, Cut, cut_step, cut_raw, cut_by, cut}
+use Rattle.java_units.specs.Cutting.{Stop, Weight, token_weight, turn, is_raw, behind, with_span, Cut, cut_step, cut_raw, cut_by, cut}
 
 -- ---- bodies
 
@@ -323,6 +323,7 @@ unjoined stop j x text bs rest k h e c = by (joins_next x) h
     follows : (text : Tokens) → map length bs ≡ counts text → walk stop j true text ≡ Some k → begins_curly (filled text bs ++ rest) ≡ false
     follows [] c h = end_curly stop rest e
     follows (y ∷ ts) c h = first_filled y ts bs rest c ∙ and_true (is_open y) (walk_next stop j true y ts k h).0
+
     by : (b : Bool) → walk stop j b text ≡ Some k → (b && begins_curly (filled text bs ++ rest)) ≡ false
     by true h = follows text c h
     by false h = refl

@@ -1,39 +1,23 @@
 -- What stands of a member is read again.
-use Rattle.std.proofs.Common.{◌≡◌, ◌≤◌, ◌-◌, ℕ, zero, suc, Bool, true, false, not, if◌then◌else◌, List, [], ◌∷◌, ◌++◌, length, map, Option, Some, None, inl, inr, refl, ap, sym, ◌∙◌, subst, append_assoc, arith}
+use Rattle.std.proofs.Common.{◌≡◌, ℕ, zero, suc, Bool, true, false, List, [], ◌∷◌, ◌++◌, length, map, Option, Some, None, refl, ap, sym, ◌∙◌, subst, append_assoc, arith}
 use Rattle.std.specs.List.{AllByRecursion}
-use Rattle.std.proofs.lemmas.List.{append-nil, length-append, length-map}
+use Rattle.std.proofs.lemmas.List.{length-append}
 use Rattle.java_tree.specs.declared.tokens.Position.{Position}
 use Rattle.java_tree.specs.declared.tokens.Mark.TheVariants as m
-use Rattle.java_tree.specs.declared.tokens.Keyword.{Keyword}
-use Rattle.java_tree.specs.declared.tokens.Keyword.TheVariants as w
 use Rattle.java_tree.specs.Seen.{Token, Tokens, pieces}
-use Rattle.java_tree.specs.declared.exprs.JExpr.{JExpr}
-use Rattle.java_tree.specs.Trees.{tokens, typed_tokens, any_level, Stands, TypeStands, TypedStands}
-use Rattle.java_reading.specs.Reading.{Read, Reader, ◌>>=◌, whole, open_round, close, colon, open_curly, typed_read, read}
-use Rattle.java_reading.proofs.Tools.{bind_some, guard_some, cond_is, some_same}
-use Rattle.java_spelling.proofs.TypeLaws.{typed_sound}
-use Rattle.java_spelling.proofs.Sound.{close_only, colon_only}
-use Rattle.java_pieces.proofs.BodySteps.{pieces_none}
-use Rattle.java_heads.specs.declared.statements.JSimple.{JSimple}
-use Rattle.java_heads.specs.declared.statements.JForHead.{JForHead}
-use Rattle.java_heads.specs.declared.statements.JLock.{JLock}
-use Rattle.java_heads.specs.Heads.{simple_tokens, for_tokens, lock_tokens, switch_tokens, SimpleStands, ForStands, LockStands, SwitchStands}
-use Rattle.java_heads.specs.Reading.{semicolon, simple_read, for_read, lock_read, switch_read}
-use Rattle.java_units.specs.declared.statements.JBody.{JBody, out-JBody, roll-JBody}
-use Rattle.java_units.specs.declared.statements.JBody.TheVariants as body
-use Rattle.java_units.specs.declared.statements.JCase.{JCase, roll-JCase, out-JCase, out-roll-JCase}
-use Rattle.java_units.specs.declared.statements.JCaseGroup.{JCaseGroup, roll-JCaseGroup, out-JCaseGroup, out-roll-JCaseGroup}
-use Rattle.java_units.specs.declared.statements.JCatch.{JCatch, roll-JCatch, out-JCatch, out-roll-JCatch}
+use Rattle.java_reading.specs.Reading.{Reader}
+use Rattle.java_units.specs.declared.statements.JBody.{JBody}
+use Rattle.java_units.specs.declared.statements.JCase.{JCase}
+use Rattle.java_units.specs.declared.statements.JCaseGroup.{JCaseGroup}
+use Rattle.java_units.specs.declared.statements.JCatch.{JCatch}
 use Rattle.java_units.specs.declared.statements.JMember.{JMember}
-use Rattle.java_units.specs.declared.statements.JStatement.{JStatement, roll-JStatement, out-JStatement}
-use Rattle.java_units.specs.declared.statements.JStatement.TheVariants as st
-use Rattle.java_units.specs.declared.statements.JBody.TheOpen.{JBody-F, JCase-F, JCaseGroup-F, JCatch-F, JMember-F, JStatement-F}
-use Rattle.java_units.specs.Tokens.{joined, filled, braced, headed, statement_tokens, body_tokens, whole_member_tokens}
-use Rattle.java_units.specs.Levels.{Levels, levels, simple_levels, for_levels, lock_levels, switch_levels}
-use Rattle.java_units.specs.Cutting.{Stop, Cut, cut}
-use Rattle.java_units.specs.Standing.{ends_open, Role, may_stand, Owner, is_block, is_block_by, spans, counts, AreBodies, Node, bodies_stand, HeadStands, all_stand, first_stand, block_stands, first_block_stands, case_stands, group_stands, full_before, catch_stands, condition_stands, statement_stands, body_stands, node_stands}
+use Rattle.java_units.specs.declared.statements.JStatement.{JStatement}
+use Rattle.java_units.specs.declared.statements.JBody.TheOpen.{JMember-F}
+use Rattle.java_units.specs.Tokens.{joined, filled, braced, statement_tokens, body_tokens, whole_member_tokens}
+use Rattle.java_units.specs.Levels.{Levels, levels}
+use Rattle.java_units.specs.Cutting.{Stop}
+use Rattle.java_units.specs.Standing.{Role, Owner, spans, counts, Node, HeadStands, all_stand, first_stand, first_block_stands, node_stands}
 use Rattle.java_units.specs.Reading as r
-use Rattle.java_units.proofs.Texts.{case_tokens, group_tokens, catch_tokens, tokens_Simple, tokens_Block, tokens_Labeled, tokens_If, tokens_IfElse, tokens_While, tokens_Do, tokens_For, tokens_Switch, tokens_Synchronized, tokens_Try, tokens_TryFinally, tokens_Statements, tokens_Members, tokens_Case, tokens_CaseGroup, tokens_Catch, out_statement, out_body, open_Simple, open_Block, open_Labeled, open_If, open_IfElse, open_While, open_Do, open_For, open_Switch, open_Synchronized, open_Try, open_TryFinally}
 use Rattle.java_tree.specs.Trees.{max_depth, listed, trailing}
 use Rattle.java_members.specs.declared.heads.JMemberHead.{JMemberHead}
 use Rattle.java_members.specs.declared.heads.JMemberHead.TheVariants as head
@@ -42,7 +26,7 @@ use Rattle.java_members.specs.declared.heads.JTypeHead.TheVariants as kind
 use Rattle.java_members.specs.declared.lines.JConstants.{JConstants}
 use Rattle.java_members.specs.Heads.{member_tokens, type_head_tokens, constants_tokens, constant_tokens, end_tokens, may_precede, MemberStands, TypeHeadStands, ConstantsStand}
 use Rattle.java_members.specs.Modifiers.{type_fits}
-use Rattle.java_members.specs.Reading.{before_semicolon, before_block, type_head, constants}
+use Rattle.java_members.specs.Reading.{before_semicolon}
 use Rattle.java_members.proofs.Members.{semicolon_is_read, block_is_read, class_precedes, interface_precedes}
 use Rattle.java_members.proofs.Types.{type_is_read}
 use Rattle.java_members.proofs.Enums.{constants_are_read}
@@ -55,7 +39,7 @@ use Rattle.java_units.proofs.Texts.{tokens_Declared, tokens_Bodied, tokens_Type}
 use Rattle.java_units.proofs.Cuts.{Ends, cut_kept, Tail, no_tail, mark_tail, spans_end, counts_end, filled_end}
 use Rattle.java_units.proofs.Passing.{Passes, passed}
 use Rattle.java_units.proofs.Quiet.{Quiet, member_quiet, head_quiet, declared_past, curly_past, close_past, Declares, member_declares, member_no_type, head_is_type, member_passes, constants_pass}
-use Rattle.java_units.proofs.Again.{Items, until_again, braced_again, on_follows, goes_on, Fresh, fresh_on, fresh_group, group_close, Member_begins, Agains, bodies_again, head_again, inner_again, inner_items, block_again}
+use Rattle.java_units.proofs.Again.{Items, until_again, braced_again, on_follows, goes_on, fresh_on, fresh_group, group_close, Member_begins, Agains, bodies_again, head_again, inner_again, block_again}
 
 abbrev Layer : Type 0
 Layer = JMember-F JBody JMember JStatement JCase JCaseGroup JCatch

@@ -1,44 +1,26 @@
 -- What is read of a member is spelled so, and stands.
-use Rattle.std.proofs.Common.{◌≡◌, ◌≤◌, ◌-◌, ℕ, zero, suc, Bool, true, false, not, if◌then◌else◌, List, [], ◌∷◌, ◌++◌, length, map, Option, Some, None, inl, inr, refl, ap, sym, ◌∙◌, subst, append_assoc, arith}
+use Rattle.std.proofs.Common.{◌≡◌, ℕ, zero, suc, true, false, List, [], ◌∷◌, ◌++◌, length, map, Option, Some, None, inl, inr, refl, ap, sym, ◌∙◌, subst, append_assoc, arith}
 use Rattle.std.specs.List.{AllByRecursion}
-use Rattle.std.proofs.lemmas.List.{append-nil, length-append, length-map}
+use Rattle.std.proofs.lemmas.List.{length-map}
 use Rattle.java_tree.specs.declared.tokens.Position.{Position}
 use Rattle.java_tree.specs.declared.tokens.Mark.TheVariants as m
-use Rattle.java_tree.specs.declared.tokens.Keyword.{Keyword}
-use Rattle.java_tree.specs.declared.tokens.Keyword.TheVariants as w
-use Rattle.java_tree.specs.Seen.{Token, Tokens, pieces}
-use Rattle.java_tree.specs.declared.exprs.JExpr.{JExpr}
-use Rattle.java_tree.specs.Trees.{tokens, typed_tokens, any_level, Stands, TypeStands, TypedStands}
-use Rattle.java_reading.specs.Reading.{Read, Reader, ◌>>=◌, whole, open_round, close, colon, open_curly, typed_read, read}
+use Rattle.java_tree.specs.Seen.{Token, Tokens}
+use Rattle.java_reading.specs.Reading.{Reader, open_curly}
 use Rattle.java_reading.proofs.Tools.{bind_some, guard_some, cond_is, some_same}
-use Rattle.java_spelling.proofs.TypeLaws.{typed_sound}
-use Rattle.java_spelling.proofs.Sound.{close_only, colon_only}
-use Rattle.java_pieces.proofs.BodySteps.{pieces_none}
-use Rattle.java_heads.specs.declared.statements.JSimple.{JSimple}
-use Rattle.java_heads.specs.declared.statements.JForHead.{JForHead}
-use Rattle.java_heads.specs.declared.statements.JLock.{JLock}
-use Rattle.java_heads.specs.Heads.{simple_tokens, for_tokens, lock_tokens, switch_tokens, SimpleStands, ForStands, LockStands, SwitchStands}
-use Rattle.java_heads.specs.Reading.{semicolon, simple_read, for_read, lock_read, switch_read}
-use Rattle.java_heads.proofs.Whole.{whole_only, read_sound}
-use Rattle.java_heads.proofs.Simple.{simple_is_spelled}
-use Rattle.java_heads.proofs.Loops.{for_is_spelled}
-use Rattle.java_heads.proofs.Labels.{lock_is_spelled, switch_is_spelled}
-use Rattle.java_units.specs.declared.statements.JBody.{JBody, out-JBody, roll-JBody}
-use Rattle.java_units.specs.declared.statements.JBody.TheVariants as body
-use Rattle.java_units.specs.declared.statements.JCase.{JCase, roll-JCase, out-JCase, out-roll-JCase}
-use Rattle.java_units.specs.declared.statements.JCaseGroup.{JCaseGroup, roll-JCaseGroup, out-JCaseGroup, out-roll-JCaseGroup}
-use Rattle.java_units.specs.declared.statements.JCatch.{JCatch, roll-JCatch, out-JCatch, out-roll-JCatch}
+use Rattle.java_heads.specs.Reading.{semicolon}
+use Rattle.java_units.specs.declared.statements.JBody.{JBody}
+use Rattle.java_units.specs.declared.statements.JCase.{JCase}
+use Rattle.java_units.specs.declared.statements.JCaseGroup.{JCaseGroup}
+use Rattle.java_units.specs.declared.statements.JCatch.{JCatch}
 use Rattle.java_units.specs.declared.statements.JMember.{JMember}
-use Rattle.java_units.specs.declared.statements.JStatement.{JStatement, roll-JStatement, out-JStatement}
-use Rattle.java_units.specs.declared.statements.JStatement.TheVariants as st
-use Rattle.java_units.specs.declared.statements.JBody.TheOpen.{JBody-F, JCase-F, JCaseGroup-F, JCatch-F, JMember-F, JStatement-F}
-use Rattle.java_units.specs.Tokens.{joined, filled, braced, headed, statement_tokens, body_tokens, whole_member_tokens}
-use Rattle.java_units.specs.Levels.{Levels, levels, simple_levels, for_levels, lock_levels, switch_levels}
-use Rattle.java_units.specs.Cutting.{Stop, Cut, cut}
-use Rattle.java_units.specs.Standing.{ends_open, Role, may_stand, Owner, is_block, is_block_by, spans, counts, AreBodies, Node, bodies_stand, HeadStands, all_stand, first_stand, block_stands, first_block_stands, case_stands, group_stands, catch_stands, condition_stands, statement_stands, body_stands, node_stands}
+use Rattle.java_units.specs.declared.statements.JStatement.{JStatement}
+use Rattle.java_units.specs.declared.statements.JBody.TheOpen.{JMember-F}
+use Rattle.java_units.specs.Tokens.{joined, filled, braced, statement_tokens, body_tokens, whole_member_tokens}
+use Rattle.java_units.specs.Levels.{Levels, levels}
+use Rattle.java_units.specs.Cutting.{Stop, cut}
+use Rattle.java_units.specs.Standing.{Role, Owner, spans, Node, HeadStands, first_stand, block_stands, first_block_stands}
 use Rattle.java_units.specs.Reading as r
-use Rattle.java_units.proofs.Texts.{case_tokens, group_tokens, catch_tokens, tokens_Simple, tokens_Block, tokens_Labeled, tokens_If, tokens_IfElse, tokens_While, tokens_Do, tokens_For, tokens_Switch, tokens_Synchronized, tokens_Try, tokens_TryFinally, tokens_Statements, tokens_Members, tokens_Case, tokens_CaseGroup, tokens_Catch, out_statement, out_body, open_Simple, open_Block, open_Labeled, open_If, open_IfElse, open_While, open_Do, open_For, open_Switch, open_Synchronized, open_Try, open_TryFinally}
-use Rattle.java_units.proofs.Cuts.{CutIs, cut_is, Tail, no_tail, mark_tail, spans_end, counts_end, filled_end}
+use Rattle.java_units.proofs.Cuts.{cut_is, Tail, no_tail, mark_tail, filled_end}
 use Rattle.java_tree.specs.Trees.{max_depth}
 use Rattle.java_members.specs.declared.heads.JMemberHead.{JMemberHead}
 use Rattle.java_members.specs.declared.heads.JMemberHead.TheVariants as head
@@ -57,7 +39,7 @@ use Rattle.java_units.specs.Tokens.{constants_by}
 use Rattle.java_units.specs.Levels.{constants_levels}
 use Rattle.java_units.specs.Standing.{owner_of, home_of, member_fits, member_levels, member_block, constants_stand, follow_end, follow, member_stands}
 use Rattle.java_units.proofs.Texts.{tokens_Declared, tokens_Bodied, tokens_Type, out_member}
-use Rattle.java_units.proofs.Sound.{open_curly_only, close_curly_only, semicolon_only, ManyIs, Stopped, many_sound, BracedIs, braced_any, spans_counts, tail_bodies, Sounds, bodies_sound, HeadIs, head_sound, BlockIs, block_sound, inner_sound}
+use Rattle.java_units.proofs.Sound.{open_curly_only, close_curly_only, semicolon_only, ManyIs, many_sound, braced_any, spans_counts, tail_bodies, Sounds, bodies_sound, head_sound, block_sound, inner_sound}
 
 abbrev Layer : Type 0
 Layer = JMember-F JBody JMember JStatement JCase JCaseGroup JCatch
@@ -264,8 +246,8 @@ module _ (P : ℕ → Node → Type 0) (R : r.Readers) (S : Sounds P R) where
       (member.rolls-Type a.0 lc.0.0 z.constants z.bodies z.members rc.0.0) (tokens_Type a.0 lc.0.0 z.constants z.bodies z.members rc.0.0)
       (curly_text ts ∙ ap (λ (l : Tokens). l ++ (r.before_curly ts).1) (sym i.0)
       ∙ ap (λ (l : Tokens). type_head_tokens a.0 ++ l) (
-        open_curly_only (r.before_curly ts).1 lc.0 lc.1
-        ∙ ap (λ (l : Tokens). Token.Sign m.OpenCurly lc.0.0 ∷ l) (j.same ∙ ap (λ (l : Tokens). C ++ (M ++ l)) (close_curly_only b.0.1 rc.0 rc.1) ∙ sym flat)
+      open_curly_only (r.before_curly ts).1 lc.0 lc.1
+      ∙ ap (λ (l : Tokens). Token.Sign m.OpenCurly lc.0.0 ∷ l) (j.same ∙ ap (λ (l : Tokens). C ++ (M ++ l)) (close_curly_only b.0.1 rc.0 rc.1) ∙ sym flat)
       )
       ∙ sym (append_assoc (type_head_tokens a.0) text rc.0.1))
       (builds a.0 lc.0.0 z.constants z.bodies z.members rc.0.0 g.0 i.1 j.constants j.follows j.all))
@@ -275,8 +257,8 @@ module _ (P : ℕ → Node → Type 0) (R : r.Readers) (S : Sounds P R) where
   member_sound d owner ts y e = elim (cond_is (r.goes_declared ts) _ _ _ e) [
     | inl h ↦ declared_sound d d d member_levels owner (member_stands P d owner) (λ x bodies end fits stands heads. (fits, stands, heads)) ts y h.1
     | inr h ↦ elim (cond_is (r.goes_type ts) _ _ _ h.1) [
-        | inl g ↦ type_sound d (R.member d) (λ owner x. P d (Node.Member owner x)) (S.member d) owner (member_stands P d owner)
-            (λ x left cs bodies xs right fits stands constants follows all. (fits, stands, constants, follows, all)) ts y g.1
-        | inr g ↦ bodied_sound d d d owner (member_stands P d owner) (λ x left xs right fits stands block. (fits, stands, block)) ts y g.1
-      ]
+      | inl g ↦ type_sound d (R.member d) (λ owner x. P d (Node.Member owner x)) (S.member d) owner (member_stands P d owner)
+          (λ x left cs bodies xs right fits stands constants follows all. (fits, stands, constants, follows, all)) ts y g.1
+      | inr g ↦ bodied_sound d d d owner (member_stands P d owner) (λ x left xs right fits stands block. (fits, stands, block)) ts y g.1
+    ]
   ]

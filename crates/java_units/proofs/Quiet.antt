@@ -1,5 +1,5 @@
 -- The heads of members and types hold no braces, no `;` and no `=` but those of the values of a field; and they pass.
-use Rattle.std.proofs.Common.{◌≡◌, ◌≤◌, ℕ, zero, suc, Bool, true, false, List, [], ◌∷◌, ◌++◌, length, map, Option, Some, None, refl, ap, sym, ◌∙◌, subst, append_assoc, arith}
+use Rattle.std.proofs.Common.{◌≡◌, ℕ, zero, suc, Bool, true, false, List, [], ◌∷◌, ◌++◌, map, Option, Some, None, refl, ap, sym, ◌∙◌, subst, append_assoc}
 use Rattle.std.proofs.lemmas.List.{append-nil}
 use Rattle.std.specs.List.{AllByRecursion}
 use Rattle.java_tree.specs.declared.tokens.Position.{Position}
@@ -11,7 +11,6 @@ use Rattle.java_tree.specs.Seen.{Token, Tokens}
 use Rattle.java_tree.specs.declared.types.Primitive.{Primitive}
 use Rattle.java_tree.specs.declared.types.Primitive.TheVariants as primitive
 use Rattle.java_tree.specs.declared.types.JDotted.{JDotted}
-use Rattle.java_tree.specs.declared.types.JQualified.{JQualified}
 use Rattle.java_tree.specs.declared.types.JBrackets.{JBrackets}
 use Rattle.java_tree.specs.declared.types.JType.{JType, out-JType, map-JType}
 use Rattle.java_tree.specs.declared.types.JType.TheOpen.{JType-F}
@@ -40,11 +39,11 @@ use Rattle.java_members.specs.declared.heads.JTypeHead.TheVariants as kind
 use Rattle.java_members.specs.declared.lines.JArguments.{JArguments}
 use Rattle.java_members.specs.declared.lines.JConstant.{JConstant}
 use Rattle.java_members.specs.declared.lines.JConstants.{JConstants}
-use Rattle.java_members.specs.Heads.{modifier_tokens, modifiers_tokens, bound_tokens, type_param_tokens, type_params_tokens, formals_tokens, list_tokens, result_tokens, static_tokens, member_tokens, type_head_tokens, arguments_tokens, constant_tokens, bound_stands, TypeParamStands, type_params_stand, formals_stand, list_stands, result_stands, FieldStands, MemberStands, may_precede, TypeHeadStands, arguments_stand, ConstantStands, ConstantsStand}
+use Rattle.java_members.specs.Heads.{modifier_tokens, modifiers_tokens, bound_tokens, type_param_tokens, type_params_tokens, formals_tokens, list_tokens, result_tokens, member_tokens, type_head_tokens, arguments_tokens, constant_tokens, bound_stands, TypeParamStands, type_params_stand, formals_stand, list_stands, result_stands, FieldStands, MemberStands, may_precede, TypeHeadStands, arguments_stand, ConstantStands, ConstantsStand}
 use Rattle.java_units.specs.Tokens.{filled}
 use Rattle.java_units.specs.Cutting.{Stop}
 use Rattle.java_units.specs.Reading as r
-use Rattle.java_units.proofs.Passing.{Passes, Begun, none, weak, both, plainly, opened, listed_passes, closing_plain, qualified_passes, type_passes, final_passes, typed_passes, all_typed_pass, trailing_passes, expr_begun, listed_begun, declarator_passes}
+use Rattle.java_units.proofs.Passing.{Passes, none, weak, both, plainly, opened, listed_passes, closing_plain, type_passes, final_passes, all_typed_pass, trailing_passes, expr_begun, listed_begun, declarator_passes}
 
 -- ---- tokens without braces, `;`, `=`
 

@@ -1,5 +1,5 @@
 -- What is read is spelled so, and stands.
-use Rattle.std.proofs.Common.{◌≡◌, ◌≤◌, ◌-◌, ℕ, zero, suc, Bool, true, false, not, if◌then◌else◌, List, [], ◌∷◌, ◌++◌, length, map, Option, Some, None, inl, inr, refl, ap, sym, ◌∙◌, subst, append_assoc, arith}
+use Rattle.std.proofs.Common.{◌≡◌, ◌≤◌, ◌-◌, ℕ, zero, suc, Bool, true, false, not, List, [], ◌∷◌, ◌++◌, length, map, Option, Some, None, inl, inr, refl, ap, sym, ◌∙◌, subst, append_assoc, arith}
 use Rattle.std.specs.List.{AllByRecursion}
 use Rattle.std.proofs.lemmas.List.{append-nil, length-append, length-map}
 use Rattle.java_tree.specs.declared.tokens.Position.{Position}
@@ -8,8 +8,8 @@ use Rattle.java_tree.specs.declared.tokens.Keyword.{Keyword}
 use Rattle.java_tree.specs.declared.tokens.Keyword.TheVariants as w
 use Rattle.java_tree.specs.Seen.{Token, Tokens, pieces}
 use Rattle.java_tree.specs.declared.exprs.JExpr.{JExpr}
-use Rattle.java_tree.specs.Trees.{tokens, typed_tokens, any_level, Stands, TypeStands, TypedStands}
-use Rattle.java_reading.specs.Reading.{Read, Reader, ◌>>=◌, whole, open_round, close, colon, open_curly, typed_read, read}
+use Rattle.java_tree.specs.Trees.{tokens, typed_tokens, any_level, Stands, TypedStands}
+use Rattle.java_reading.specs.Reading.{Reader, whole, open_round, close, colon, open_curly, typed_read, read}
 use Rattle.java_reading.proofs.Tools.{bind_some, guard_some, cond_is, some_same}
 use Rattle.java_spelling.proofs.TypeLaws.{typed_sound}
 use Rattle.java_spelling.proofs.Sound.{close_only, colon_only}
@@ -17,28 +17,28 @@ use Rattle.java_pieces.proofs.BodySteps.{pieces_none}
 use Rattle.java_heads.specs.declared.statements.JSimple.{JSimple}
 use Rattle.java_heads.specs.declared.statements.JForHead.{JForHead}
 use Rattle.java_heads.specs.declared.statements.JLock.{JLock}
-use Rattle.java_heads.specs.Heads.{simple_tokens, for_tokens, lock_tokens, switch_tokens, SimpleStands, ForStands, LockStands, SwitchStands}
+use Rattle.java_heads.specs.Heads.{simple_tokens, for_tokens, lock_tokens, switch_tokens, SimpleStands, ForStands, LockStands}
 use Rattle.java_heads.specs.Reading.{semicolon, simple_read, for_read, lock_read, switch_read}
 use Rattle.java_heads.proofs.Whole.{whole_only, read_sound}
 use Rattle.java_heads.proofs.Simple.{simple_is_spelled}
 use Rattle.java_heads.proofs.Loops.{for_is_spelled}
 use Rattle.java_heads.proofs.Labels.{lock_is_spelled, switch_is_spelled}
-use Rattle.java_units.specs.declared.statements.JBody.{JBody, out-JBody, roll-JBody}
+use Rattle.java_units.specs.declared.statements.JBody.{JBody}
 use Rattle.java_units.specs.declared.statements.JBody.TheVariants as body
-use Rattle.java_units.specs.declared.statements.JCase.{JCase, roll-JCase, out-JCase, out-roll-JCase}
-use Rattle.java_units.specs.declared.statements.JCaseGroup.{JCaseGroup, roll-JCaseGroup, out-JCaseGroup, out-roll-JCaseGroup}
-use Rattle.java_units.specs.declared.statements.JCatch.{JCatch, roll-JCatch, out-JCatch, out-roll-JCatch}
+use Rattle.java_units.specs.declared.statements.JCase.{JCase, out-roll-JCase}
+use Rattle.java_units.specs.declared.statements.JCaseGroup.{JCaseGroup, out-JCaseGroup, out-roll-JCaseGroup}
+use Rattle.java_units.specs.declared.statements.JCatch.{JCatch, out-JCatch, out-roll-JCatch}
 use Rattle.java_units.specs.declared.statements.JMember.{JMember}
-use Rattle.java_units.specs.declared.statements.JStatement.{JStatement, roll-JStatement, out-JStatement}
+use Rattle.java_units.specs.declared.statements.JStatement.{JStatement, roll-JStatement}
 use Rattle.java_units.specs.declared.statements.JStatement.TheVariants as st
-use Rattle.java_units.specs.declared.statements.JBody.TheOpen.{JBody-F, JCase-F, JCaseGroup-F, JCatch-F, JMember-F, JStatement-F}
+use Rattle.java_units.specs.declared.statements.JBody.TheOpen.{JBody-F, JCase-F, JCaseGroup-F, JCatch-F, JStatement-F}
 use Rattle.java_units.specs.Tokens.{joined, filled, braced, headed, statement_tokens, body_tokens, whole_member_tokens}
-use Rattle.java_units.specs.Levels.{Levels, levels, simple_levels, for_levels, lock_levels, switch_levels}
+use Rattle.java_units.specs.Levels.{Levels, simple_levels, for_levels, lock_levels, switch_levels}
 use Rattle.java_units.specs.Cutting.{Stop, Cut, cut}
-use Rattle.java_units.specs.Standing.{ends_open, Role, may_stand, Owner, is_block, is_block_by, spans, counts, AreBodies, Node, bodies_stand, HeadStands, all_stand, first_stand, block_stands, first_block_stands, case_stands, group_stands, full_before, catch_stands, condition_stands, statement_stands, body_stands, node_stands}
+use Rattle.java_units.specs.Standing.{ends_open, Role, may_stand, Owner, is_block, is_block_by, spans, counts, AreBodies, Node, bodies_stand, HeadStands, block_stands, case_stands, group_stands, full_before, catch_stands, statement_stands, body_stands, node_stands}
 use Rattle.java_units.specs.Reading as r
-use Rattle.java_units.proofs.Texts.{case_tokens, group_tokens, catch_tokens, tokens_Simple, tokens_Block, tokens_Labeled, tokens_If, tokens_IfElse, tokens_While, tokens_Do, tokens_For, tokens_Switch, tokens_Synchronized, tokens_Try, tokens_TryFinally, tokens_Statements, tokens_Members, tokens_Case, tokens_CaseGroup, tokens_Catch, out_statement, out_body, open_Simple, open_Block, open_Labeled, open_If, open_IfElse, open_While, open_Do, open_For, open_Switch, open_Synchronized, open_Try, open_TryFinally}
-use Rattle.java_units.proofs.Cuts.{CutIs, cut_is, Tail, no_tail, mark_tail, spans_end, counts_end, filled_end}
+use Rattle.java_units.proofs.Texts.{case_tokens, group_tokens, catch_tokens, tokens_Simple, tokens_Block, tokens_Labeled, tokens_If, tokens_IfElse, tokens_While, tokens_Do, tokens_For, tokens_Switch, tokens_Synchronized, tokens_Try, tokens_TryFinally, tokens_Statements, tokens_Members, tokens_Case, tokens_CaseGroup, tokens_Catch, out_statement, out_body, open_Simple, open_Block, open_Labeled, open_IfElse, open_While, open_Do, open_For, open_Switch, open_Synchronized, open_Try, open_TryFinally}
+use Rattle.java_units.proofs.Cuts.{CutIs, cut_is, Tail, mark_tail, spans_end, counts_end, filled_end}
 
 -- ---- one token
 
@@ -558,14 +558,14 @@ module _ (P : ℕ → Node → Type 0) (R : r.Readers) (S : Sounds P R) (d : ℕ
       let G : JCatch-F JBody JMember JStatement JCase JCaseGroup JCatch → Type 0 = λ l. catch_stands P d l in
       subst Q (some_same b.2) (
         catch_only ts a.0 a.1
-        ∙ ap (λ (l : Tokens). Token.Word w.Catch a.0.0 ∷ l) (
-          open_round_only a.0.1 lp.0 lp.1
-          ∙ ap (λ (l : Tokens). Token.Sign m.OpenRound lp.0.0 ∷ l) (
+            ∙ ap (λ (l : Tokens). Token.Word w.Catch a.0.0 ∷ l) (
+            open_round_only a.0.1 lp.0 lp.1
+            ∙ ap (λ (l : Tokens). Token.Sign m.OpenRound lp.0.0 ∷ l) (
             i.0 ∙ ap (λ (l : Tokens). typed_tokens x ++ l) (close_only p.0.1 rp.0 rp.1 ∙ ap (λ (l : Tokens). Token.Sign m.CloseRound rp.0.0 ∷ l) j.same)
             ∙ sym (append_assoc (typed_tokens x) (Token.Sign m.CloseRound rp.0.0 ∷ braced z.opens (map statement_tokens z.items) z.closes) b.0.1)
-          )
-        )
-        ∙ ap (λ (l : Tokens). l ++ b.0.1) (sym (tokens_Catch layer)),
+            )
+            )
+            ∙ ap (λ (l : Tokens). l ++ b.0.1) (sym (tokens_Catch layer)),
         subst G (sym (out-roll-JCatch layer)) (i.1, j.all),
       )
 
@@ -575,8 +575,8 @@ module _ (P : ℕ → Node → Type 0) (R : r.Readers) (S : Sounds P R) (d : ℕ
       → Token.Word w.Try at ∷ ts ≡ (Token.Word w.Try at ∷ (braced x.opens (map statement_tokens x.items) x.closes ++ (joined (map catch_tokens catches) ++ more))) ++ rest
   try_text at x ts us catches more rest same further =
       ap (λ (l : Tokens). Token.Word w.Try at ∷ l) (
-        same ∙ ap (λ (l : Tokens). braced x.opens (map statement_tokens x.items) x.closes ++ l) (further ∙ sym (append_assoc (joined (map catch_tokens catches)) more rest))
-        ∙ sym (append_assoc (braced x.opens (map statement_tokens x.items) x.closes) (joined (map catch_tokens catches) ++ more) rest)
+      same ∙ ap (λ (l : Tokens). braced x.opens (map statement_tokens x.items) x.closes ++ l) (further ∙ sym (append_assoc (joined (map catch_tokens catches)) more rest))
+      ∙ sym (append_assoc (braced x.opens (map statement_tokens x.items) x.closes) (joined (map catch_tokens catches) ++ more) rest)
       )
 
   try_alone_sound : (place : Role) (at : Position) (x : r.Braced JStatement) (ts us : Tokens) (catches : List JCatch) (rest : Tokens) (y : JStatement × Tokens) → BlockIs d ts (x, us)
@@ -663,9 +663,9 @@ module _ (P : ℕ → Node → Type 0) (R : r.Readers) (S : Sounds P R) (d : ℕ
       let G : JCase-F JBody JMember JStatement JCase JCaseGroup JCatch → Type 0 = λ l. case_stands P d l in
       subst Q (some_same k.2) (
         i.same ∙ ap (λ (l : Tokens). filled a.0.text a.0.bodies ++ l) rest ∙ sym (append_assoc (filled a.0.text a.0.bodies) z c.0.1)
-        ∙ ap (λ (l : Tokens). l ++ c.0.1) (
-          sym (filled_end a.0.text z a.0.bodies t i.counted) ∙ ap (λ (l : Tokens). filled l a.0.bodies) (sym j.0) ∙ ap (λ l. filled (switch_tokens b.0) l) (sym n.same) ∙ sym (tokens_Case layer)
-        ),
+            ∙ ap (λ (l : Tokens). l ++ c.0.1) (
+            sym (filled_end a.0.text z a.0.bodies t i.counted) ∙ ap (λ (l : Tokens). filled l a.0.bodies) (sym j.0) ∙ ap (λ l. filled (switch_tokens b.0) l) (sym n.same) ∙ sym (tokens_Case layer)
+            ),
         subst G (sym (out-roll-JCase layer)) (j.1, subst F (sym j.0) (record { are = are; stand = n.stand })),
       )
 

@@ -1,5 +1,5 @@
 -- What is read in any number of steps is spelled so, and stands.
-use Rattle.std.proofs.Common.{◌≡◌, ℕ, zero, suc, Bool, true, false, List, ◌++◌, Option, Some, None}
+use Rattle.std.proofs.Common.{◌≡◌, ℕ, zero, suc, Bool, ◌++◌, Some}
 use Rattle.java_tree.specs.Seen.{Tokens}
 use Rattle.java_units.specs.declared.statements.JBody.{JBody}
 use Rattle.java_units.specs.declared.statements.JCase.{JCase}

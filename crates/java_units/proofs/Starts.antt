@@ -1,5 +1,5 @@
 -- What statements begin with.
-use Rattle.std.proofs.Common.{◌≡◌, ◌≤◌, ℕ, zero, suc, Bool, true, false, List, [], ◌∷◌, ◌++◌, length, map, Option, Some, None, refl, ap, sym, ◌∙◌, subst, arith}
+use Rattle.std.proofs.Common.{◌≡◌, ℕ, zero, suc, Bool, true, false, List, [], ◌∷◌, ◌++◌, length, map, Option, Some, None, refl, ap, sym, ◌∙◌, subst, arith}
 use Rattle.java_tree.specs.declared.tokens.Position.{Position}
 use Rattle.java_tree.specs.declared.tokens.Mark.TheVariants as m
 use Rattle.java_tree.specs.declared.tokens.Keyword.{Keyword}
@@ -11,15 +11,14 @@ use Rattle.java_tree.specs.declared.types.JType.{JType, out-JType, map-JType}
 use Rattle.java_tree.specs.declared.types.JType.TheOpen.{JType-F}
 use Rattle.java_tree.specs.Trees.{primitive_word, type_tokens, type_tokens_by, type_stands_by, TypeStands, final_tokens, any_level}
 use Rattle.java_spelling.proofs.First.{First, first, starts, type_tokens_out}
-use Rattle.java_heads.specs.declared.declarations.JDeclaration.{JDeclaration}
 use Rattle.java_heads.specs.declared.statements.JSimple.{JSimple}
 use Rattle.java_heads.specs.declared.statements.JSimple.TheVariants as simple
-use Rattle.java_heads.specs.Heads.{declaration_tokens, DeclarationStands, simple_tokens, SimpleStands}
+use Rattle.java_heads.specs.Heads.{declaration_tokens, simple_tokens, SimpleStands}
 use Rattle.java_units.specs.Tokens.{filled}
 use Rattle.java_units.specs.Standing.{counts, Role}
 use Rattle.java_units.specs.Cutting.{Stop}
 use Rattle.java_units.specs.Reading as r
-use Rattle.java_units.proofs.Cuts.{walk, walk_next, joins_next}
+use Rattle.java_units.proofs.Cuts.{walk, walk_next}
 
 -- whether it may begin what stands before a `;`
 abbrev pub leads_word : Keyword → Bool

@@ -1,5 +1,5 @@
 -- The tokens of each form, and that each stands by its layer.
-use Rattle.std.proofs.Common.{◌≡◌, ℕ, Bool, true, false, List, [], ◌∷◌, ◌++◌, map, Option, refl, ap, sym, ◌∙◌}
+use Rattle.std.proofs.Common.{◌≡◌, ℕ, Bool, true, false, List, [], ◌∷◌, ◌++◌, map, Option, ap, sym, ◌∙◌}
 use Rattle.java_tree.specs.declared.tokens.Position.{Position}
 use Rattle.java_tree.specs.declared.tokens.Mark.TheVariants as m
 use Rattle.java_tree.specs.declared.tokens.Keyword.TheVariants as w
@@ -16,7 +16,7 @@ use Rattle.java_members.specs.declared.lines.JConstants.{JConstants}
 use Rattle.java_members.specs.Heads.{member_tokens, type_head_tokens}
 use Rattle.java_units.specs.declared.statements.JBody.{JBody, roll-JBody, out-JBody, out-roll-JBody, fold-roll-JBody}
 use Rattle.java_units.specs.declared.statements.JBody.TheVariants as body
-use Rattle.java_units.specs.declared.statements.JCase.{JCase, roll-JCase, out-JCase, out-roll-JCase, fold-JCase, fold-roll-JCase}
+use Rattle.java_units.specs.declared.statements.JCase.{JCase, roll-JCase, fold-JCase, fold-roll-JCase}
 use Rattle.java_units.specs.declared.statements.JCaseGroup.{JCaseGroup, roll-JCaseGroup, fold-JCaseGroup, fold-roll-JCaseGroup}
 use Rattle.java_units.specs.declared.statements.JCatch.{JCatch, roll-JCatch, fold-JCatch, fold-roll-JCatch}
 use Rattle.java_units.specs.declared.statements.JMember.{JMember, roll-JMember, out-JMember, out-roll-JMember, fold-roll-JMember}
@@ -190,4 +190,3 @@ open_Try at left xs right catches = ap ends_open (sym (st.rolls-Try at left xs r
 pub open_TryFinally : (at : Position) (left : Position) (xs : List JStatement) (right : Position) (catches : List JCatch) (last : Position) (lc : Position) (ys : List JStatement) (rc : Position) → ends_open (st.TryFinally at left xs right catches last lc ys rc) ≡ false
 unfolding ends_open
 open_TryFinally at left xs right catches last lc ys rc = ap ends_open (sym (st.rolls-TryFinally at left xs right catches last lc ys rc)) ∙ fold-roll-JStatement Bool Bool Bool Bool Bool Bool (λ x. false) (λ x. false) ends_open_by (λ x. false) (λ x. false) (λ x. false) (JStatement-F.TryFinally at left xs right catches last lc ys rc)
-

@@ -1,6 +1,5 @@
 -- How deep each body stands in a head: 1 for the head itself, one more for each part on the way. In the order of their `{`.
-use Rattle.std.specs.Prelude.{ℕ, zero, suc, List, [], ◌∷◌, ◌++◌, map, Option, Some, None}
-use Rattle.java_tree.specs.declared.tokens.Position.{Position}
+use Rattle.std.specs.Prelude.{ℕ, suc, List, [], ◌∷◌, ◌++◌, map, Option, Some, None}
 use Rattle.java_tree.specs.declared.exprs.Span.{Span}
 use Rattle.java_tree.specs.declared.exprs.JExpr.{JExpr, fold-JExpr}
 use Rattle.java_tree.specs.declared.exprs.JExpr.TheOpen.{JExpr-F}

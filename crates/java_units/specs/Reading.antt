@@ -7,10 +7,7 @@ use Rattle.java_tree.specs.declared.tokens.Keyword.TheVariants as w
 use Rattle.java_tree.specs.Seen.{Token, Tokens}
 use Rattle.java_tree.specs.declared.exprs.JExpr.{JExpr}
 use Rattle.java_tree.specs.Trees.{any_level, max_depth}
-use Rattle.java_reading.specs.Reading.{Read, Reader, ◌>>=◌, maybe, whole, open_round, close, colon, open_curly, typed_read, read}
-use Rattle.java_heads.specs.declared.statements.JSimple.{JSimple}
-use Rattle.java_heads.specs.declared.statements.JForHead.{JForHead}
-use Rattle.java_heads.specs.declared.statements.JLock.{JLock}
+use Rattle.java_reading.specs.Reading.{Reader, ◌>>=◌, whole, open_round, close, colon, open_curly, typed_read, read}
 use Rattle.java_heads.specs.Reading.{semicolon, simple_read, for_read, lock_read, switch_read}
 use Rattle.java_members.specs.declared.heads.JMemberHead.{JMemberHead}
 use Rattle.java_members.specs.declared.heads.JMemberHead.TheVariants as head
@@ -29,7 +26,7 @@ use Rattle.java_units.specs.declared.statements.JMember.TheVariants as member
 use Rattle.java_units.specs.declared.statements.JStatement.{JStatement}
 use Rattle.java_units.specs.declared.statements.JStatement.TheVariants as st
 use Rattle.java_units.specs.Levels.{Levels, levels, simple_levels, for_levels, lock_levels, switch_levels, constants_levels}
-use Rattle.java_units.specs.Cutting.{Stop, Cut, cut}
+use Rattle.java_units.specs.Cutting.{Stop, cut}
 use Rattle.java_units.specs.Standing.{Role, may_stand, Owner, owner_of, home_of, member_fits, member_levels, spans}
 
 -- ---- lists
@@ -257,8 +254,8 @@ module _ (R : Readers) where
     unfoldable pub group_read : Reader JCaseGroup
     group_read ts =
         if begins_case ts then
-          (until no_case (R.label d) ts >>= λ xs. until ends_group (R.statement d Role.Inner) xs.1 >>= λ ys.
-          Some (roll-JCaseGroup (record { labels = xs.0; statements = ys.0 }), ys.1))
+        (until no_case (R.label d) ts >>= λ xs. until ends_group (R.statement d Role.Inner) xs.1 >>= λ ys.
+        Some (roll-JCaseGroup (record { labels = xs.0; statements = ys.0 }), ys.1))
         else None
 
     unfoldable pub switch_statement : Position → Reader JStatement

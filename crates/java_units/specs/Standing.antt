@@ -1,12 +1,11 @@
 -- Which statements, members and units stand: their forms, and how deep they are.
-use Rattle.std.specs.Prelude.{◌≡◌, ◌≤◌, ◌+◌, ◌-◌, ℕ, zero, suc, Bool, true, false, List, [], ◌∷◌, ◌++◌, length, map, Option, Some, None}
+use Rattle.std.specs.Prelude.{◌≡◌, ◌≤◌, ◌-◌, ℕ, zero, suc, Bool, true, false, List, [], ◌∷◌, length, map, Option, Some, None}
 use Rattle.std.specs.List.{AllByRecursion}
 use Rattle.java_tree.specs.declared.tokens.Position.{Position}
 use Rattle.java_tree.specs.Seen.{Token, Tokens, pieces}
 use Rattle.java_tree.specs.declared.exprs.JExpr.{JExpr}
-use Rattle.java_tree.specs.Trees.{tokens, any_level, init_level, TypeStands, Stands, max_depth}
+use Rattle.java_tree.specs.Trees.{tokens, any_level, TypeStands, Stands, max_depth}
 use Rattle.java_heads.specs.declared.declarations.JDeclarator.{JDeclarator}
-use Rattle.java_heads.specs.declared.declarations.JDeclaration.{JDeclaration}
 use Rattle.java_heads.specs.declared.statements.JSimple.{JSimple}
 use Rattle.java_heads.specs.declared.statements.JSimple.TheVariants as simple
 use Rattle.java_heads.specs.Heads.{simple_tokens, for_tokens, lock_tokens, switch_tokens, SimpleStands, ForStands, LockStands, SwitchStands}

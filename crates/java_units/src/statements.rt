@@ -57,14 +57,7 @@ pub enum JStatement {
     /// The label, `:`, the statement.
     Labeled(Name, Position, Position, Boxed<JStatement>),
     /// `if`, `(`, the condition, its bodies, `)`, the statement.
-    If(
-        Position,
-        Position,
-        JExpr,
-        Items<JBody>,
-        Position,
-        Boxed<JStatement>,
-    ),
+    If(Position, Position, JExpr, Items<JBody>, Position, Boxed<JStatement>),
     /// `if`, `(`, the condition, its bodies, `)`, the statement, `else`, the other.
     IfElse(
         Position,
@@ -77,34 +70,11 @@ pub enum JStatement {
         Boxed<JStatement>,
     ),
     /// `while`, `(`, the condition, its bodies, `)`, the statement.
-    While(
-        Position,
-        Position,
-        JExpr,
-        Items<JBody>,
-        Position,
-        Boxed<JStatement>,
-    ),
+    While(Position, Position, JExpr, Items<JBody>, Position, Boxed<JStatement>),
     /// `do`, the statement, `while`, `(`, the condition, its bodies, `)`, `;`.
-    Do(
-        Position,
-        Boxed<JStatement>,
-        Position,
-        Position,
-        JExpr,
-        Items<JBody>,
-        Position,
-        Position,
-    ),
+    Do(Position, Boxed<JStatement>, Position, Position, JExpr, Items<JBody>, Position, Position),
     /// `for`, `(`, what stands in the parentheses, its bodies, `)`, the statement.
-    For(
-        Position,
-        Position,
-        JForHead,
-        Items<JBody>,
-        Position,
-        Boxed<JStatement>,
-    ),
+    For(Position, Position, JForHead, Items<JBody>, Position, Boxed<JStatement>),
     /// `switch`, `(`, the subject, its bodies, `)`, `{`, the groups, `}`.
     Switch(
         Position,
@@ -128,13 +98,7 @@ pub enum JStatement {
         Position,
     ),
     /// `try`, `{`, the statements, `}`, the catches.
-    Try(
-        Position,
-        Position,
-        Items<JStatement>,
-        Position,
-        Items<JCatch>,
-    ),
+    Try(Position, Position, Items<JStatement>, Position, Items<JCatch>),
     /// `try`, `{`, the statements, `}`, the catches, `finally`, `{`, the statements, `}`.
     TryFinally(
         Position,
@@ -159,12 +123,5 @@ pub enum JMember {
     Bodied(JMemberHead, Position, Items<JStatement>, Position),
     /// What stands before the body of a type, `{`, the constants of an enum with the bodies of their arguments, the
     /// members, `}`.
-    Type(
-        JTypeHead,
-        Position,
-        Option<JConstants>,
-        Items<JBody>,
-        Items<JMember>,
-        Position,
-    ),
+    Type(JTypeHead, Position, Option<JConstants>, Items<JBody>, Items<JMember>, Position),
 }
