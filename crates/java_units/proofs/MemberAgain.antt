@@ -19,6 +19,7 @@ use Rattle.java_units.specs.Cutting.{Stop}
 use Rattle.java_units.specs.Standing.{Role, Owner, spans, counts, Node, HeadStands, all_stand, first_stand, first_block_stands, node_stands}
 use Rattle.java_units.specs.Reading as r
 use Rattle.java_tree.specs.Trees.{max_depth, listed, trailing}
+use Rattle.java_members.specs.declared.homes.JHome.{JHome}
 use Rattle.java_members.specs.declared.heads.JMemberHead.{JMemberHead}
 use Rattle.java_members.specs.declared.heads.JMemberHead.TheVariants as head
 use Rattle.java_members.specs.declared.heads.JTypeHead.{JTypeHead}
@@ -44,12 +45,12 @@ use Rattle.java_units.proofs.Again.{Items, until_again, braced_again, on_follows
 abbrev Layer : Type 0
 Layer = JMember-F JBody JMember JStatement JCase JCaseGroup JCatch
 
-fits_precede : (owner : Owner) (has_body : Bool) (x : JMemberHead) → member_fits owner has_body x ≡ true → may_precede has_body x ≡ true
+pub fits_precede : (owner : Owner) (has_body : Bool) (x : JMemberHead) → member_fits owner has_body x ≡ true → may_precede has_body x ≡ true
 fits_precede (Owner.Class n) has_body x h = class_precedes n has_body x h
 fits_precede Owner.Interface has_body x h = interface_precedes has_body x h
 
 module _ (P : ℕ → Node → Type 0) (R : r.Readers) (S : Agains P R) where
-  declared_again : (d e h : ℕ) (levels : JMemberHead → Levels) (owner : Owner) (x : JMemberHead) (xs : List JBody) (end : Position) (rest : Tokens) → member_fits owner false x ≡ true → MemberStands d e x
+  pub declared_again : (d e h : ℕ) (levels : JMemberHead → Levels) (owner : Owner) (x : JMemberHead) (xs : List JBody) (end : Position) (rest : Tokens) → member_fits owner false x ≡ true → MemberStands d e x
       → HeadStands P h (member_tokens x) (levels x) xs
       → r.declared R d e h levels owner ((filled (member_tokens x) (map body_tokens xs) ++ Token.Sign m.Semicolon end ∷ []) ++ rest) ≡ Some (member.Declared x xs end, rest)
   unfolding r.declared
@@ -96,7 +97,7 @@ module _ (P : ℕ → Node → Type 0) (R : r.Readers) (S : Agains P R) where
   member_block_again d (head.Method mods params result n at formals throws) left xs right rest s = block_again P R S d left xs right rest s
   member_block_again d (head.Initializer static) left xs right rest s = block_again P R S d left xs right rest s
 
-  bodied_again : (d e h : ℕ) (owner : Owner) (x : JMemberHead) (left : Position) (xs : List JStatement) (right : Position) (rest : Tokens) → member_fits owner true x ≡ true → MemberStands d e x → member_block P h x xs
+  pub bodied_again : (d e h : ℕ) (owner : Owner) (x : JMemberHead) (left : Position) (xs : List JStatement) (right : Position) (rest : Tokens) → member_fits owner true x ≡ true → MemberStands d e x → member_block P h x xs
       → r.bodied R d e h owner ((member_tokens x ++ braced left (map statement_tokens xs) right) ++ rest) ≡ Some (member.Bodied x left xs right, rest)
   unfolding r.bodied
   bodied_again d e h owner x left xs right rest fits stands block =
@@ -180,12 +181,12 @@ module _ (P : ℕ → Node → Type 0) (R : r.Readers) (S : Agains P R) where
     pub reads : (owner : Owner) (x : JMember) → N owner x → (rest : Tokens) → nested owner (whole_member_tokens x ++ rest) ≡ Some (x, rest)
     pub begins : (owner : Owner) (x : JMember) → N owner x → Member_begins (whole_member_tokens x)
 
-  type_again : (d : ℕ) (nested : Owner → Reader JMember) (N : Owner → JMember → Type 0) → Nested nested N → (owner : Owner) (x : JTypeHead) (left : Position) (cs : Option JConstants) (bodies : List JBody)
-      (xs : List JMember) (right : Position) (rest : Tokens) → type_fits (home_of owner) x ≡ true → TypeHeadStands d x → constants_stand P x cs bodies → follow cs xs → AllByRecursion (N (owner_of x)) xs
-      → r.typed R d nested owner ((type_head_tokens x ++ Token.Sign m.OpenCurly left ∷ (constants_by cs (map body_tokens bodies) ++ (joined (map whole_member_tokens xs) ++ Token.Sign m.CloseCurly right ∷ []))) ++ rest)
+  pub type_again : (d : ℕ) (nested : Owner → Reader JMember) (N : Owner → JMember → Type 0) → Nested nested N → (place : JHome) (x : JTypeHead) (left : Position) (cs : Option JConstants) (bodies : List JBody)
+      (xs : List JMember) (right : Position) (rest : Tokens) → type_fits place x ≡ true → TypeHeadStands d x → constants_stand P x cs bodies → follow cs xs → AllByRecursion (N (owner_of x)) xs
+      → r.typed R d nested place ((type_head_tokens x ++ Token.Sign m.OpenCurly left ∷ (constants_by cs (map body_tokens bodies) ++ (joined (map whole_member_tokens xs) ++ Token.Sign m.CloseCurly right ∷ []))) ++ rest)
       ≡ Some (member.Type x left cs bodies xs right, rest)
   unfolding r.typed
-  type_again d nested N i owner x left cs bodies xs right rest fits stands cstands f all =
+  type_again d nested N i place x left cs bodies xs right rest fits stands cstands f all =
       let T : Tokens = type_head_tokens x in
       let C : Tokens = constants_by cs (map body_tokens bodies) in
       let M : Tokens = joined (map whole_member_tokens xs) in
@@ -202,7 +203,7 @@ module _ (P : ℕ → Node → Type 0) (R : r.Readers) (S : Agains P R) where
       let c = curly_past T left (C ++ (M ++ end)) (head_quiet d x stands) in
       let a = inside_again (N (owner_of x)) (r.until r.begins_close (nested (owner_of x))) right rest
       (λ ys all. until_again JMember whole_member_tokens (N (owner_of x)) r.begins_close (nested (owner_of x)) (λ ts. true) items ys end all refl refl) x cs bodies xs cstands f all in
-      ap (r.typed R d nested owner) flat ∙ rw (c, type_is_read d T x stands refl, a, fits) refl
+      ap (r.typed R d nested place) flat ∙ rw (c, type_is_read d T x stands refl, a, fits) refl
 
   -- ---- any member
 
@@ -213,13 +214,13 @@ module _ (P : ℕ → Node → Type 0) (R : r.Readers) (S : Agains P R) where
       let G : JMember → Type 0 = λ z. step (whole_member_tokens z ++ rest) ≡ Some (z, rest) in
       subst G (sym rolls) (ap (λ (l : Tokens). step (l ++ rest)) spelled ∙ reads)
 
-  declared_goes : (d e : ℕ) (owner : Owner) (x : JMemberHead) (xs : List JBody) (end : Position) (rest : Tokens) → member_fits owner false x ≡ true → MemberStands d e x
+  pub declared_goes : (d e : ℕ) (owner : Owner) (x : JMemberHead) (xs : List JBody) (end : Position) (rest : Tokens) → member_fits owner false x ≡ true → MemberStands d e x
       → Declares ((filled (member_tokens x) (map body_tokens xs) ++ Token.Sign m.Semicolon end ∷ []) ++ rest)
   declared_goes d e owner x xs end rest fits stands =
       let text : Tokens = filled (member_tokens x) (map body_tokens xs) in
       subst Declares (sym (append_assoc text (Token.Sign m.Semicolon end ∷ []) rest)) (member_declares d e x (map body_tokens xs) end rest (fits_precede owner false x fits) stands)
 
-  curly_declared : (a : Tokens) (at : Position) (b rest : Tokens) → Quiet a → r.goes_declared ((a ++ Token.Sign m.OpenCurly at ∷ b) ++ rest) ≡ false
+  pub curly_declared : (a : Tokens) (at : Position) (b rest : Tokens) → Quiet a → r.goes_declared ((a ++ Token.Sign m.OpenCurly at ∷ b) ++ rest) ≡ false
   curly_declared a at b rest q = ap r.goes_declared (append_assoc a (Token.Sign m.OpenCurly at ∷ b) rest) ∙ declared_past a (Token.Sign m.OpenCurly at ∷ (b ++ rest)) q
 
   module _ (d : ℕ) where
@@ -252,7 +253,7 @@ module _ (P : ℕ → Node → Type 0) (R : r.Readers) (S : Agains P R) where
         let g = curly_declared (type_head_tokens x) left inner rest (head_quiet d x s.1) in
         let t : r.goes_type ((type_head_tokens x ++ Token.Sign m.OpenCurly left ∷ inner) ++ rest) ≡ true =
         ap r.goes_type (append_assoc (type_head_tokens x) (Token.Sign m.OpenCurly left ∷ inner) rest) ∙ head_is_type x (Token.Sign m.OpenCurly left ∷ (inner ++ rest)) in
-        rw (g, t) (type_again d (R.member d) (λ owner x. P d (Node.Member owner x)) nested_members owner x left cs bodies xs right rest s.0 s.1 s.2 s.3 s.4)
+        rw (g, t) (type_again d (R.member d) (λ owner x. P d (Node.Member owner x)) nested_members (home_of owner) x left cs bodies xs right rest s.0 s.1 s.2 s.3 s.4)
 
     member_layer : (owner : Owner) (layer : Layer) (rest : Tokens) → member_stands P d owner layer → r.member_step R d owner (whole_member_tokens (roll-JMember layer) ++ rest) ≡ Some (roll-JMember layer, rest)
     member_layer owner (JMember-F.Declared x xs end) rest s =

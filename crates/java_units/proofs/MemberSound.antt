@@ -22,6 +22,7 @@ use Rattle.java_units.specs.Standing.{Role, Owner, spans, Node, HeadStands, firs
 use Rattle.java_units.specs.Reading as r
 use Rattle.java_units.proofs.Cuts.{cut_is, Tail, no_tail, mark_tail, filled_end}
 use Rattle.java_tree.specs.Trees.{max_depth}
+use Rattle.java_members.specs.declared.homes.JHome.{JHome}
 use Rattle.java_members.specs.declared.heads.JMemberHead.{JMemberHead}
 use Rattle.java_members.specs.declared.heads.JMemberHead.TheVariants as head
 use Rattle.java_members.specs.declared.heads.JTypeHead.{JTypeHead}
@@ -219,18 +220,18 @@ module _ (P : ℕ → Node → Type 0) (R : r.Readers) (S : Sounds P R) where
 
   pub type_sound : (d : ℕ) (nested : Owner → Reader JMember) (N : Owner → JMember → Type 0)
       → ((owner : Owner) (ts : Tokens) (y : JMember × Tokens) → nested owner ts ≡ Some y → (ts ≡ whole_member_tokens y.0 ++ y.1) × N owner y.0)
-      → (owner : Owner) (Q : Layer → Type 0)
-      → ((x : JTypeHead) (left : Position) (cs : Option JConstants) (bodies : List JBody) (xs : List JMember) (right : Position) → type_fits (home_of owner) x ≡ true → TypeHeadStands d x
+      → (place : JHome) (Q : Layer → Type 0)
+      → ((x : JTypeHead) (left : Position) (cs : Option JConstants) (bodies : List JBody) (xs : List JMember) (right : Position) → type_fits place x ≡ true → TypeHeadStands d x
       → constants_stand P x cs bodies → follow cs xs → AllByRecursion (N (owner_of x)) xs → Q (JMember-F.Type x left cs bodies xs right))
-      → (ts : Tokens) (y : JMember × Tokens) → r.typed R d nested owner ts ≡ Some y → MemberIs Q ts y
+      → (ts : Tokens) (y : JMember × Tokens) → r.typed R d nested place ts ≡ Some y → MemberIs Q ts y
   unfolding r.typed
-  type_sound d nested N sounds owner Q builds ts y e =
+  type_sound d nested N sounds place Q builds ts y e =
       let a = bind_some (type_head d (r.before_curly ts).0) _ _ e in
       let lc = bind_some (open_curly (r.before_curly ts).1) _ _ a.2 in
       let list : Reader (List JMember) = r.until r.begins_close (nested (owner_of a.0)) in
       let b = bind_some (r.inside R a.0 list lc.0.1) _ _ lc.2 in
       let rc = bind_some (r.close_curly b.0.1) _ _ b.2 in
-      let g = guard_some (type_fits (home_of owner) a.0) _ y rc.2 in
+      let g = guard_some (type_fits place a.0) _ y rc.2 in
       let i = type_is_spelled d (r.before_curly ts).0 a.0 a.1 in
       let j = inside_sound (N (owner_of a.0)) list
       (λ ts y h. (many_sound JMember whole_member_tokens (N (owner_of a.0)) r.begins_close (nested (owner_of a.0)) (sounds (owner_of a.0)) (length ts) ts y h).many) a.0 lc.0.1 b.0 b.1 in
@@ -257,7 +258,7 @@ module _ (P : ℕ → Node → Type 0) (R : r.Readers) (S : Sounds P R) where
   member_sound d owner ts y e = elim (cond_is (r.goes_declared ts) _ _ _ e) [
     | inl h ↦ declared_sound d d d member_levels owner (member_stands P d owner) (λ x bodies end fits stands heads. (fits, stands, heads)) ts y h.1
     | inr h ↦ elim (cond_is (r.goes_type ts) _ _ _ h.1) [
-      | inl g ↦ type_sound d (R.member d) (λ owner x. P d (Node.Member owner x)) (S.member d) owner (member_stands P d owner)
+      | inl g ↦ type_sound d (R.member d) (λ owner x. P d (Node.Member owner x)) (S.member d) (home_of owner) (member_stands P d owner)
           (λ x left cs bodies xs right fits stands constants follows all. (fits, stands, constants, follows, all)) ts y g.1
       | inr g ↦ bodied_sound d d d owner (member_stands P d owner) (λ x left xs right fits stands block. (fits, stands, block)) ts y g.1
     ]

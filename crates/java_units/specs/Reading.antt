@@ -9,13 +9,17 @@ use Rattle.java_tree.specs.declared.exprs.JExpr.{JExpr}
 use Rattle.java_tree.specs.Trees.{any_level, max_depth}
 use Rattle.java_reading.specs.Reading.{Reader, ◌>>=◌, whole, open_round, close, colon, open_curly, typed_read, read}
 use Rattle.java_heads.specs.Reading.{semicolon, simple_read, for_read, lock_read, switch_read}
+use Rattle.java_members.specs.declared.homes.JHome.{JHome}
+use Rattle.java_members.specs.declared.homes.JHome.TheVariants as home
 use Rattle.java_members.specs.declared.heads.JMemberHead.{JMemberHead}
 use Rattle.java_members.specs.declared.heads.JMemberHead.TheVariants as head
 use Rattle.java_members.specs.declared.heads.JTypeHead.{JTypeHead}
 use Rattle.java_members.specs.declared.heads.JTypeHead.TheVariants as kind
 use Rattle.java_members.specs.declared.lines.JConstants.{JConstants}
+use Rattle.java_members.specs.declared.lines.JPackage.{JPackage}
+use Rattle.java_members.specs.declared.lines.JImport.{JImport}
 use Rattle.java_members.specs.Modifiers.{type_fits}
-use Rattle.java_members.specs.Reading.{before_semicolon, before_block, type_head, constants}
+use Rattle.java_members.specs.Reading.{before_semicolon, before_block, type_head, constants, package_line, import_line}
 use Rattle.java_units.specs.declared.statements.JBody.{JBody}
 use Rattle.java_units.specs.declared.statements.JBody.TheVariants as body
 use Rattle.java_units.specs.declared.statements.JCase.{JCase, roll-JCase}
@@ -27,7 +31,7 @@ use Rattle.java_units.specs.declared.statements.JStatement.{JStatement}
 use Rattle.java_units.specs.declared.statements.JStatement.TheVariants as st
 use Rattle.java_units.specs.Levels.{Levels, levels, simple_levels, for_levels, lock_levels, switch_levels, constants_levels}
 use Rattle.java_units.specs.Cutting.{Stop, cut}
-use Rattle.java_units.specs.Standing.{Role, may_stand, Owner, owner_of, home_of, member_fits, member_levels, spans}
+use Rattle.java_units.specs.Standing.{Role, may_stand, Owner, owner_of, home_of, member_fits, member_levels, top_levels, spans}
 
 -- ---- lists
 
@@ -349,18 +353,18 @@ module _ (R : Readers) where
   inside (kind.Enum mods at n nat faces) list ts = enum_inside list ts
   inside _ list ts = plain_inside list ts
 
-  unfoldable pub typed : ℕ → (Owner → Reader JMember) → Owner → Reader JMember
-  typed d nested owner ts = do
+  unfoldable pub typed : ℕ → (Owner → Reader JMember) → JHome → Reader JMember
+  typed d nested place ts = do
     x ← type_head d (before_curly ts).0
     lc ← open_curly (before_curly ts).1
     y ← inside x (until begins_close (nested (owner_of x))) lc.1
     rc ← close_curly y.1
-    if type_fits (home_of owner) x then Some (member.Type x lc.0 y.0.constants y.0.bodies y.0.members rc.0, rc.1) else None
+    if type_fits place x then Some (member.Type x lc.0 y.0.constants y.0.bodies y.0.members rc.0, rc.1) else None
 
   unfoldable pub member_step : ℕ → Owner → Reader JMember
   member_step d owner ts =
       if goes_declared ts then declared d d d member_levels owner ts
-      else (if goes_type ts then typed d (R.member d) owner ts else bodied d d d owner ts)
+      else (if goes_type ts then typed d (R.member d) (home_of owner) ts else bodied d d d owner ts)
 
   -- ---- a step
 
@@ -393,3 +397,55 @@ readers (suc n) = more_readers (readers n)
 
 unfoldable pub statement_read : ℕ → ℕ → Role → Reader JStatement
 statement_read n d place = (readers n).statement d place
+
+-- ---- members that stand in no expression, and units
+
+unfoldable pub top_step : Readers → (Owner → Reader JMember) → Owner → Reader JMember
+top_step R nested owner ts =
+    if goes_declared ts then declared R max_depth (suc max_depth) 199 top_levels owner ts
+    else (if goes_type ts then typed R max_depth nested (home_of owner) ts else bodied R max_depth (suc max_depth) max_depth owner ts)
+
+unfoldable pub tops : ℕ → Owner → Reader JMember
+tops zero owner ts = None
+tops (suc n) owner ts = top_step (readers n) (tops n) owner ts
+
+-- a type at the top of a file, or a `;` there
+unfoldable pub file_read : ℕ → Reader JMember
+file_read n (Token.Sign m.Semicolon at ∷ rest) = Some (member.Declared head.Empty [] at, rest)
+file_read n ts = typed (readers n) max_depth (tops n) home.File ts
+
+-- the tokens as far as the first `;`
+abbrev pub line : Tokens → Tokens × Tokens
+line [] = ([], [])
+line (Token.Sign m.Semicolon at ∷ rest) = (Token.Sign m.Semicolon at ∷ [], rest)
+line (x ∷ rest) = (x ∷ (line rest).0, (line rest).1)
+
+abbrev pub begins_package : Tokens → Bool
+begins_package (Token.Word w.Package at ∷ rest) = true
+begins_package _ = false
+
+abbrev pub begins_import : Tokens → Bool
+begins_import (Token.Word w.Import at ∷ rest) = true
+begins_import _ = false
+
+abbrev pub no_import : Tokens → Bool
+no_import ts = not (begins_import ts)
+
+unfoldable pub package_read : Reader (Option JPackage)
+package_read ts = if begins_package ts then (package_line (line ts).0 >>= λ x. Some (Some x, (line ts).1)) else Some (None, ts)
+
+unfoldable pub import_read : Reader JImport
+import_read ts = import_line (line ts).0 >>= λ x. Some (x, (line ts).1)
+
+-- what a file declares
+pub record Declared : Type 0 where
+  pub within : Option JPackage
+  pub imports : List JImport
+  pub types : List JMember
+
+unfoldable pub unit_read : ℕ → Tokens → Option Declared
+unit_read n ts = do
+  first ← package_read ts
+  imports ← until no_import import_read first.1
+  types ← whole (until is_end (file_read n) imports.1)
+  Some (record { within = first.0; imports = imports.0; types = types })
