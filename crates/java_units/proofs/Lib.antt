@@ -1,0 +1,11 @@
+pub mod Texts
+pub mod Cuts
+pub mod Passing
+pub mod Sound
+pub mod MemberSound
+pub mod Soundness
+pub mod Starts
+pub mod Again
+pub mod Quiet
+pub mod MemberAgain
+pub mod Theorem

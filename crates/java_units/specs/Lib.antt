@@ -1,0 +1,5 @@
+pub mod Tokens
+pub mod Levels
+pub mod Cutting
+pub mod Standing
+pub mod Reading

@@ -1,0 +1,10 @@
+//! The trees of statements, members and units, and which tokens they spell.
+#![tactic(auto)]
+
+mod laws;
+mod statements;
+mod units;
+
+pub use laws::{one_block, one_body, one_statement};
+pub use statements::{JBody, JCase, JCaseGroup, JCatch, JMember, JStatement};
+pub use units::JUnit;
