@@ -9,3 +9,4 @@ pub mod Again
 pub mod Quiet
 pub mod MemberAgain
 pub mod Theorem
+pub mod Whole
