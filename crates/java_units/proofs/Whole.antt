@@ -141,9 +141,6 @@ unfolding r.file_read
 file_typed n (Token.Sign m.Semicolon at ∷ rest) h = absurd (cc h)
 file_typed n _ h = refl
 
-FileIs : ℕ → Layer → Type 0
-FileIs n = file_stands (NodeStands n) (TopStands n)
-
 pub file_sound : (n : ℕ) (ts : Tokens) (y : JMember × Tokens) → r.file_read n ts ≡ Some y → (ts ≡ whole_member_tokens y.0 ++ y.1) × FileStands n y.0
 unfolding r.file_read
 file_sound n (Token.Sign m.Semicolon at ∷ rest) y e =
@@ -192,3 +189,210 @@ file_layer n (JMember-F.Type x left cs bodies xs right) rest s =
 
 pub file_again : (n : ℕ) (x : JMember) → FileStands n x → (rest : Tokens) → r.file_read n (whole_member_tokens x ++ rest) ≡ Some (x, rest)
 file_again n x s rest = subst (λ (z : JMember). r.file_read n (whole_member_tokens z ++ rest) ≡ Some (z, rest)) (roll-out-JMember x) (file_layer n (out-JMember x) rest s)
+
+-- ---- what a type at the top of a file begins with
+
+modifier_file : (kind : ModifierKind) (at : Position) (ts : Tokens) → (r.begins_import (modifier_tokens (record { kind = kind; at = at }) ++ ts) ≡ false) × (r.begins_package (modifier_tokens (record { kind = kind; at = at }) ++ ts) ≡ false)
+modifier_file modifier.Public at ts = (refl, refl)
+modifier_file modifier.Protected at ts = (refl, refl)
+modifier_file modifier.Private at ts = (refl, refl)
+modifier_file modifier.Abstract at ts = (refl, refl)
+modifier_file modifier.Static at ts = (refl, refl)
+modifier_file modifier.Final at ts = (refl, refl)
+modifier_file modifier.Synchronized at ts = (refl, refl)
+modifier_file modifier.Volatile at ts = (refl, refl)
+modifier_file modifier.Default at ts = (refl, refl)
+modifier_file (modifier.Override p) at ts = (refl, refl)
+
+record FileBegins (ts : Tokens) : Type 0 where
+  no_import : r.begins_import ts ≡ false
+  no_package : r.begins_package ts ≡ false
+
+modifiers_file : (xs : List JModifier) (ts : Tokens) → FileBegins ts → FileBegins (modifiers_tokens xs ++ ts)
+modifiers_file [] ts f = f
+modifiers_file (x ∷ xs) ts f =
+    let i = modifier_file x.kind x.at (modifiers_tokens xs ++ ts) in
+    subst FileBegins (sym (append_assoc (modifier_tokens x) (modifiers_tokens xs) ts)) (record { no_import = i.0; no_package = i.1 })
+
+begun_file : (mods : List JModifier) (a ts : Tokens) → FileBegins (a ++ ts) → FileBegins ((modifiers_tokens mods ++ a) ++ ts)
+begun_file mods a ts f = subst FileBegins (sym (append_assoc (modifiers_tokens mods) a ts)) (modifiers_file mods (a ++ ts) f)
+
+head_file : (x : JTypeHead) (ts : Tokens) → FileBegins (type_head_tokens x ++ ts)
+head_file (kind.Class mods at n nat params above faces) ts = begun_file mods _ ts (record { no_import = refl; no_package = refl })
+head_file (kind.Interface mods at n nat params above) ts = begun_file mods _ ts (record { no_import = refl; no_package = refl })
+head_file (kind.Enum mods at n nat faces) ts = begun_file mods _ ts (record { no_import = refl; no_package = refl })
+
+record FileStarts (ts : Tokens) : Type 0 where
+  full : 1 ≤ length ts
+  begins : (rest : Tokens) → FileBegins (ts ++ rest)
+
+starts_made : (layer : Layer) (x : JMember) (text : Tokens) → roll-JMember layer ≡ x → whole_member_tokens x ≡ text → FileStarts text → FileStarts (whole_member_tokens (roll-JMember layer))
+starts_made layer x text rolls spelled h = subst FileStarts (sym (ap whole_member_tokens rolls ∙ spelled)) h
+
+starts_layer : (n : ℕ) (layer : Layer) → file_stands (NodeStands n) (TopStands n) layer → FileStarts (whole_member_tokens (roll-JMember layer))
+starts_layer n (JMember-F.Declared head.Empty xs at) s =
+    starts_made (JMember-F.Declared head.Empty xs at) (member.Declared head.Empty xs at) _ (member.rolls-Declared head.Empty xs at) (tokens_Declared head.Empty xs at)
+    (record { full = omega arith; begins = λ rest. record { no_import = refl; no_package = refl } })
+starts_layer n (JMember-F.Declared (head.Field mods x) xs at) s = absurd s
+starts_layer n (JMember-F.Declared (head.Method mods params result name nat formals throws) xs at) s = absurd s
+starts_layer n (JMember-F.Declared (head.Constructor mods name nat formals throws) xs at) s = absurd s
+starts_layer n (JMember-F.Declared (head.Initializer static) xs at) s = absurd s
+starts_layer n (JMember-F.Bodied x left xs right) s = absurd s
+starts_layer n (JMember-F.Type x left cs bodies xs right) s =
+    let inner : Tokens = constants_by cs (map body_tokens bodies) ++ (joined (map whole_member_tokens xs) ++ Token.Sign m.CloseCurly right ∷ []) in
+    let B : Tokens = Token.Sign m.OpenCurly left ∷ inner in
+    starts_made (JMember-F.Type x left cs bodies xs right) (member.Type x left cs bodies xs right) _ (member.rolls-Type x left cs bodies xs right) (tokens_Type x left cs bodies xs right)
+    (record {
+      full = let l = length-append (type_head_tokens x) B in omega (arith, l);
+      begins = λ rest. subst FileBegins (sym (append_assoc (type_head_tokens x) B rest)) (head_file x (B ++ rest));
+    })
+
+file_starts : (n : ℕ) (x : JMember) → FileStands n x → FileStarts (whole_member_tokens x)
+file_starts n x s = subst (λ (z : JMember). FileStarts (whole_member_tokens z)) (roll-out-JMember x) (starts_layer n (out-JMember x) s)
+
+types_begin : (n : ℕ) (xs : List JMember) → AllByRecursion (FileStands n) xs → FileBegins (joined (map whole_member_tokens xs) ++ [])
+types_begin n [] all = record { no_import = refl; no_package = refl }
+types_begin n (x ∷ xs) all =
+    subst FileBegins (sym (append_assoc (whole_member_tokens x) (joined (map whole_member_tokens xs)) [])) ((file_starts n x all.0).begins (joined (map whole_member_tokens xs) ++ []))
+
+types_items : (n : ℕ) → Items JMember whole_member_tokens (FileStands n) r.is_end (r.file_read n) (λ ts. true)
+types_items n = record {
+  reads = λ x s rest h. file_again n x s rest;
+  full = λ x s. (file_starts n x s).full;
+  runs = λ x s rest. runs (whole_member_tokens x) rest (file_starts n x s).full;
+  follows = λ x s rest. refl;
+}
+  where
+    runs : (ts rest : Tokens) → 1 ≤ length ts → r.is_end (ts ++ rest) ≡ false
+    runs [] rest h = absurd (omega (arith, h))
+    runs (t ∷ ts) rest h = refl
+
+types_again : (n : ℕ) (xs : List JMember) → AllByRecursion (FileStands n) xs → r.until r.is_end (r.file_read n) (joined (map whole_member_tokens xs) ++ []) ≡ Some (xs, [])
+types_again n xs all = until_again JMember whole_member_tokens (FileStands n) r.is_end (r.file_read n) (λ ts. true) (types_items n) xs [] all refl refl
+
+-- ---- lines
+
+line_text : (ts : Tokens) → ts ≡ (r.line ts).0 ++ (r.line ts).1
+line_text [] = refl
+line_text (Token.Sign m.Semicolon at ∷ rest) = refl
+line_text (x ∷ rest) = ap (λ (l : Tokens). x ∷ l) (line_text rest)
+
+-- what stands before the line's end
+line_dotted : (xs : List JDotted) (us : Tokens) (y : Tokens × Tokens) → r.line us ≡ y → r.line (dotted_tokens xs ++ us) ≡ (dotted_tokens xs ++ y.0, y.1)
+line_dotted [] us y h = h
+line_dotted (x ∷ xs) us y h = ap (λ (p : Tokens × Tokens). (Token.Sign m.Dot x.dot ∷ Token.Id x.name x.at ∷ p.0, p.1)) (line_dotted xs us y h)
+
+line_star : (x : Option JStar) (end : Position) (rest : Tokens) → r.line (star_tokens x ++ Token.Sign m.Semicolon end ∷ rest) ≡ (star_tokens x ++ Token.Sign m.Semicolon end ∷ [], rest)
+line_star None end rest = refl
+line_star (Some x) end rest = refl
+
+package_split : (x : JPackage) (rest : Tokens) → r.line (package_tokens x ++ rest) ≡ (package_tokens x, rest)
+package_split x rest =
+    ap (λ (l : Tokens). r.line (Token.Word w.Package x.at ∷ Token.Id x.name.name x.name.at ∷ l)) (append_assoc (dotted_tokens x.name.rest) (Token.Sign m.Semicolon x.end ∷ []) rest)
+    ∙ ap (λ (p : Tokens × Tokens). (Token.Word w.Package x.at ∷ Token.Id x.name.name x.name.at ∷ p.0, p.1)) (line_dotted x.name.rest (Token.Sign m.Semicolon x.end ∷ rest) (Token.Sign m.Semicolon x.end ∷ [], rest) refl)
+
+import_split : (x : JImport) (rest : Tokens) → r.line (import_tokens x ++ rest) ≡ (import_tokens x, rest)
+import_split x rest =
+    ap (λ (l : Tokens). r.line (Token.Word w.Import x.at ∷ Token.Id x.name.name x.name.at ∷ l)) (
+      append_assoc (dotted_tokens x.name.rest) (star_tokens x.star ++ Token.Sign m.Semicolon x.end ∷ []) rest
+      ∙ ap (λ (l : Tokens). dotted_tokens x.name.rest ++ l) (append_assoc (star_tokens x.star) (Token.Sign m.Semicolon x.end ∷ []) rest)
+    )
+    ∙ ap (λ (p : Tokens × Tokens). (Token.Word w.Import x.at ∷ Token.Id x.name.name x.name.at ∷ p.0, p.1))
+    (line_dotted x.name.rest (star_tokens x.star ++ Token.Sign m.Semicolon x.end ∷ rest) (star_tokens x.star ++ Token.Sign m.Semicolon x.end ∷ [], rest) (line_star x.star x.end rest))
+
+package_again : (x : Option JPackage) (rest : Tokens) → r.begins_package rest ≡ false → r.package_read (package_part x ++ rest) ≡ Some (x, rest)
+unfolding r.package_read
+package_again None rest h = rw h refl
+package_again (Some x) rest h =
+    ap (λ (p : Tokens × Tokens). package_line p.0 >>= λ y. Some (Option.Some y, p.1)) (package_split x rest)
+    ∙ ap (λ (o : Option JPackage). o >>= λ y. Some (Option.Some y, rest)) (package_is_read (package_tokens x) x refl)
+
+package_sound : (ts : Tokens) (y : Option JPackage × Tokens) → r.package_read ts ≡ Some y → ts ≡ package_part y.0 ++ y.1
+unfolding r.package_read
+package_sound ts y e =
+    let Q : Option JPackage × Tokens → Type 0 = λ y. ts ≡ package_part y.0 ++ y.1 in
+    elim (cond_is (r.begins_package ts) _ _ _ e) [
+      | inl h ↦ let a = bind_some (package_line (r.line ts).0) _ _ h.1 in
+          subst Q (some_same a.2) (line_text ts ∙ ap (λ (l : Tokens). l ++ (r.line ts).1) (sym (package_is_spelled (r.line ts).0 a.0 a.1)))
+      | inr h ↦ subst Q (some_same h.1) refl
+    ]
+
+abbrev Any : JImport → Type 0
+Any x = Unit {0}
+
+any : (xs : List JImport) → AllByRecursion Any xs
+any [] = tt
+any (x ∷ xs) = (tt, any xs)
+
+import_again : (x : JImport) (rest : Tokens) → r.import_read (import_tokens x ++ rest) ≡ Some (x, rest)
+unfolding r.import_read
+import_again x rest =
+    ap (λ (p : Tokens × Tokens). import_line p.0 >>= λ y. Some (y, p.1)) (import_split x rest)
+    ∙ ap (λ (o : Option JImport). o >>= λ y. Some (y, rest)) (import_is_read (import_tokens x) x refl)
+
+import_sound : (ts : Tokens) (y : JImport × Tokens) → r.import_read ts ≡ Some y → (ts ≡ import_tokens y.0 ++ y.1) × Any y.0
+unfolding r.import_read
+import_sound ts y e =
+    let a = bind_some (import_line (r.line ts).0) _ _ e in
+    let Q : JImport × Tokens → Type 0 = λ y. (ts ≡ import_tokens y.0 ++ y.1) × Any y.0 in
+    subst Q (some_same a.2) (line_text ts ∙ ap (λ (l : Tokens). l ++ (r.line ts).1) (sym (import_is_spelled (r.line ts).0 a.0 a.1)), tt)
+
+import_items : Items JImport import_tokens Any r.no_import r.import_read (λ ts. true)
+import_items = record {
+  reads = λ x s rest h. import_again x rest;
+  full = λ x s. omega arith;
+  runs = λ x s rest. refl;
+  follows = λ x s rest. refl;
+}
+
+imports_begin : (xs : List JImport) (rest : Tokens) → r.begins_package rest ≡ false → r.begins_package (joined (map import_tokens xs) ++ rest) ≡ false
+imports_begin [] rest h = h
+imports_begin (x ∷ xs) rest h = refl
+
+-- ---- units
+
+abbrev Declares : JUnit → r.Declared
+Declares unit = record { within = unit.package; imports = unit.imports; types = unit.types }
+
+-- What a file declares is read again.
+pub unit_is_read : (n : ℕ) (unit : JUnit) → AllByRecursion (FileStands n) unit.types → r.unit_read n (unit_tokens unit) ≡ Some (Declares unit)
+unfolding r.unit_read unit_tokens
+unit_is_read n unit all =
+    let I : Tokens = joined (map import_tokens unit.imports) in
+    let T : Tokens = joined (map whole_member_tokens unit.types) in
+    let begins : FileBegins T = subst FileBegins (append-nil T) (types_begin n unit.types all) in
+    let p = package_again unit.package (I ++ T) (imports_begin unit.imports T begins.no_package) in
+    let i = until_again JImport import_tokens Any r.no_import r.import_read (λ ts. true) import_items unit.imports T (any unit.imports) (ap not begins.no_import) refl in
+    let t : r.until r.is_end (r.file_read n) T ≡ Some (unit.types, []) = ap (r.until r.is_end (r.file_read n)) (sym (append-nil T)) ∙ types_again n unit.types all in
+    rw (p, i, t) refl
+
+-- What is read is what the tokens declare, and stands.
+pub record DeclaredIs (n : ℕ) (ts : Tokens) (x : r.Declared) : Type 0 where
+  pub same : ts ≡ package_part x.within ++ (joined (map import_tokens x.imports) ++ joined (map whole_member_tokens x.types))
+  pub stand : AllByRecursion (FileStands n) x.types
+
+pub unit_is_spelled : (n : ℕ) (ts : Tokens) (x : r.Declared) → r.unit_read n ts ≡ Some x → DeclaredIs n ts x
+unfolding r.unit_read
+unit_is_spelled n ts x e =
+    let a = bind_some (r.package_read ts) _ _ e in
+    let b = bind_some (r.until r.no_import r.import_read a.0.1) _ _ a.2 in
+    let c = bind_some (whole (r.until r.is_end (r.file_read n) b.0.1)) _ _ b.2 in
+    let p = package_sound ts a.0 a.1 in
+    let i = (many_sound JImport import_tokens Any r.no_import r.import_read import_sound (length a.0.1) a.0.1 b.0 b.1).many in
+    let t = (many_sound JMember whole_member_tokens (FileStands n) r.is_end (r.file_read n) (file_sound n) (length b.0.1) b.0.1 (c.0, []) (whole_only (r.until r.is_end (r.file_read n) b.0.1) c.0 c.1)).many in
+    subst (DeclaredIs n ts) (some_same c.2) (record {
+      same =
+          p ∙ ap (λ (l : Tokens). package_part a.0.0 ++ l) (i.same ∙ ap (λ (l : Tokens). joined (map import_tokens b.0.0) ++ l) (t.same ∙ append-nil (joined (map whole_member_tokens c.0))));
+      stand = t.all;
+    })
+
+read_unit : (unit : JUnit) (ts : Tokens) → UnitSpells unit ts → r.unit_read (length ts) ts ≡ Some (Declares unit)
+read_unit unit ts s = ap (r.unit_read (length ts)) (sym s.same) ∙ unit_is_read (length ts) unit s.stands
+
+pub unit_one : (x y : JUnit) (ts : Tokens) → UnitSpells x ts → UnitSpells y ts → Declares x ≡ Declares y
+unit_one x y ts s t = some_same (sym (read_unit x ts s) ∙ read_unit y ts t)
+
+pub units_one : (x y : JUnit) (ts : Tokens) → UnitSpells x ts → UnitSpells y ts → (x.package ≡ y.package) × (x.imports ≡ y.imports) × (x.types ≡ y.types)
+units_one x y ts s t =
+    let e = unit_one x y ts s t in
+    (ap (λ (z : r.Declared). z.within) e, ap (λ (z : r.Declared). z.imports) e, ap (λ (z : r.Declared). z.types) e)
