@@ -1,11 +1,12 @@
-//! What the grammar promises of statements and members, with a depth of at most the number d. The number n bounds the
-//! steps to their leaves.
+//! What the grammar promises of statements, members and units, with a depth of at most the number d where one is named.
+//! The number n bounds the steps to their leaves.
 
 ghost use Rattle.std.specs.Prelude.{◌≡◌, ℕ, List};
 ghost use Rattle.java_tree.specs.Seen.{Tokens};
-ghost use Rattle.java_units.specs.Standing.{MembersSpell, Role, StatementSpells, StatementsSpell};
+ghost use Rattle.java_units.specs.Standing.{MembersSpell, Role, StatementSpells, StatementsSpell, UnitSpells};
 ghost use Rattle.java_units.specs.declared.statements.JMember.{JMember};
 ghost use Rattle.java_units.specs.declared.statements.JStatement.{JStatement};
+ghost use Rattle.java_units.specs.declared.units.JUnit.{JUnit};
 
 /// Tokens spell at most one statement.
 pub fn one_statement()
@@ -20,4 +21,9 @@ pub fn one_block()
 /// Tokens between the braces of an anonymous class spell its members in at most one way.
 pub fn one_body()
     ensures { (n d : ℕ) (xs ys : List JMember) (text : Tokens) → MembersSpell n d xs text → MembersSpell n d ys text → xs ≡ ys }
+{}
+
+/// The tokens of a file spell what it declares in at most one way.
+pub fn one_unit()
+    ensures { (x y : JUnit) (text : Tokens) → UnitSpells x text → UnitSpells y text → (x.package ≡ y.package) × (x.imports ≡ y.imports) × (x.types ≡ y.types) }
 {}
