@@ -10,3 +10,4 @@ pub mod Quiet
 pub mod MemberAgain
 pub mod Theorem
 pub mod Whole
+pub mod Counted
