@@ -51,7 +51,18 @@ use Rattle.java_heads.specs.declared.statements.JSwitchLabel.TheVariants as labe
 use Rattle.java_heads.specs.Heads.{value_tokens, declarator_tokens, declaration_tokens, value_stands, DeclaratorStands, DeclarationStands, StatementStands, label_tokens, maybe_tokens, args_tokens, simple_tokens, maybe_stands, SimpleStands, start_tokens, for_tokens, StartStands, ForStands, lock_tokens, LockStands, switch_tokens, SwitchStands}
 use Rattle.java_spelling.proofs.First.{tokens_out, type_tokens_out, Any, any}
 use Rattle.java_units.specs.Levels.{Levels, all_levels, deeper, body_level, levels_by, levels, list_levels, maybe_levels, value_levels, declarator_levels, declaration_levels, simple_levels, start_levels, for_levels, lock_levels, switch_levels}
-use Rattle.java_units.specs.Standing.{spans}
+use Rattle.java_members.specs.declared.modifiers.ModifierKind.{ModifierKind}
+use Rattle.java_members.specs.declared.modifiers.ModifierKind.TheVariants as modifier
+use Rattle.java_members.specs.declared.modifiers.JModifier.{JModifier}
+use Rattle.java_members.specs.declared.heads.JMemberHead.{JMemberHead}
+use Rattle.java_members.specs.declared.heads.JMemberHead.TheVariants as head
+use Rattle.java_members.specs.declared.lines.JArguments.{JArguments}
+use Rattle.java_members.specs.declared.lines.JConstant.{JConstant}
+use Rattle.java_members.specs.declared.lines.JConstants.{JConstants}
+use Rattle.java_members.specs.Heads.{modifier_tokens, modifiers_tokens, member_tokens, arguments_tokens, constant_tokens, constants_tokens, end_tokens, FieldStands, MemberStands, arguments_stand, ConstantStands, ConstantsStand}
+use Rattle.java_units.specs.Standing.{spans, member_levels, top_levels, initial_levels}
+use Rattle.java_units.specs.Levels.{arguments_levels, constant_levels, constants_levels}
+use Rattle.java_units.proofs.Quiet.{Quiet, member_quiet}
 
 levels_out : (x : JExpr) → levels x ≡ levels_by (map-JExpr JExpr Levels levels (out-JExpr x))
 unfolding levels
@@ -256,3 +267,131 @@ expr_counts (suc d) l x s =
     let C : Levels → Type 0 = λ ls. Counts ls (tokens x) in
     let D : Tokens → Type 0 = λ ts. Counts (levels_by (map-JExpr JExpr Levels levels (out-JExpr x))) ts in
     subst C (sym (levels_out x)) (subst D (sym (tokens_out x)) (layer_counts d (expr_counts d) (out-JExpr x) s.1))
+
+-- ---- heads
+
+value_counts : (d : ℕ) (x : Option JValue) → value_stands d x → Counts (value_levels x) (value_tokens x)
+value_counts d None s = none
+value_counts d (Some x) s = sign (expr_counts d init_level x.tree s)
+
+declarator_counts : (d : ℕ) (x : JDeclarator) → DeclaratorStands d x → Counts (declarator_levels x) (declarator_tokens x)
+unfolding DeclaratorStands
+declarator_counts zero x s = absurd s
+declarator_counts (suc d) x s = deep (name (value_counts d x.value s))
+
+initial_counts : (d : ℕ) (x : JDeclarator) → DeclaratorStands d x → Counts (value_levels x.value) (declarator_tokens x)
+unfolding DeclaratorStands
+initial_counts zero x s = absurd s
+initial_counts (suc d) x s = name (value_counts d x.value s)
+
+declaration_counts : (d : ℕ) (x : JDeclaration) → DeclarationStands d x → Counts (declaration_levels x) (declaration_tokens x)
+declaration_counts d x s =
+    before (final_counts x.is_final) (before (type_counts d x.kind s.kind) (deep (listed_counts JDeclarator declarator_tokens declarator_levels (DeclaratorStands d) (declarator_counts d) x.commas x.names s.between s.all)))
+
+maybe_counts : (d : ℕ) (x : Option JExpr) → maybe_stands d x → Counts (maybe_levels x) (maybe_tokens x)
+maybe_counts d None s = none
+maybe_counts d (Some x) s = expr_counts d any_level x s
+
+break_counts : (x : Option JLabelName) → Counts [] (label_tokens x)
+break_counts None = none
+break_counts (Some x) = name none
+
+exprs_count : (d : ℕ) (commas : List Position) (xs : List JExpr) → AreBetween commas xs → AllByRecursion (Stands d any_level) xs → Counts (list_levels xs) (listed commas (map tokens xs))
+exprs_count d commas xs b all = listed_counts JExpr tokens levels (Stands d any_level) (expr_counts d any_level) commas xs b all
+
+pub simple_counts : (d : ℕ) (x : JSimple) → SimpleStands d x → Counts (simple_levels x) (simple_tokens x)
+simple_counts d simple.Empty s = none
+simple_counts d (simple.Declaration x) s = declaration_counts d x s
+simple_counts d (simple.Expression x) s = deep (expr_counts d any_level x s.stands)
+simple_counts d (simple.Break at x) s = word (break_counts x)
+simple_counts d (simple.Continue at x) s = word (break_counts x)
+simple_counts d (simple.Return at x) s = deep (word (maybe_counts d x s))
+simple_counts d (simple.Throw at x) s = deep (word (expr_counts d any_level x s))
+simple_counts d (simple.ThisCall at lp args commas rp) s = deep (word (sign (behind (exprs_count d commas args s.0 s.1) (sign none))))
+simple_counts d (simple.SuperCall at lp args commas rp) s = deep (word (sign (behind (exprs_count d commas args s.0 s.1) (sign none))))
+
+statements_count : (d : ℕ) (commas : List Position) (xs : List JExpr) → AreBetween commas xs → AllByRecursion (StatementStands d) xs → Counts (list_levels xs) (listed commas (map tokens xs))
+statements_count d commas xs b all = listed_counts JExpr tokens levels (StatementStands d) (λ x s. expr_counts d any_level x s.stands) commas xs b all
+
+start_counts : (d : ℕ) (x : JForStart) → StartStands d x → Counts (start_levels x) (start_tokens x)
+start_counts d (start.Declaration x) s = declaration_counts d x s
+start_counts d (start.Expressions xs commas) s = deep (statements_count d commas xs s.0 s.1)
+
+pub for_counts : (d : ℕ) (x : JForHead) → ForStands d x → Counts (for_levels x) (for_tokens x)
+for_counts d (for.Basic start first condition second updates commas) s =
+    both (start_counts d start s.0) (sign (both (deep (maybe_counts d condition s.1)) (sign (deep (statements_count d commas updates s.2 s.3)))))
+for_counts d (for.Each is_final kind n at colon walked) s = deep (before (final_counts is_final) (before (type_counts d kind s.0) (name (sign (expr_counts d any_level walked s.1)))))
+
+pub lock_counts : (d : ℕ) (x : JLock) → LockStands d x → Counts (lock_levels x) (lock_tokens x)
+lock_counts d (lock.Expression x) s = deep (expr_counts d any_level x s)
+lock_counts d (lock.Class q dot at) s = before {x = qualified_tokens q} (name (dotted_counts q.rest)) (sign (word none))
+
+pub switch_counts : (d : ℕ) (x : JSwitchLabel) → SwitchStands d x → Counts (switch_levels x) (switch_tokens x)
+unfolding SwitchStands
+switch_counts zero x s = absurd s
+switch_counts (suc d) (label.Case at x colon) s = deep (word (behind (expr_counts d any_level x s) (sign none)))
+switch_counts (suc d) (label.Default at colon) s = word (sign none)
+
+-- ---- fields, and the constants of an enum
+
+modifiers_count : (xs : List JModifier) → Counts [] (modifiers_tokens xs)
+modifiers_count [] = none
+modifiers_count (x ∷ xs) = before (by x.kind x.at) (modifiers_count xs)
+  where
+    by : (kind : ModifierKind) (at : Position) → Counts [] (modifier_tokens (record { kind = kind; at = at }))
+    by modifier.Public at = word none
+    by modifier.Protected at = word none
+    by modifier.Private at = word none
+    by modifier.Abstract at = word none
+    by modifier.Static at = word none
+    by modifier.Final at = word none
+    by modifier.Synchronized at = word none
+    by modifier.Volatile at = word none
+    by modifier.Default at = word none
+    by (modifier.Override p) at = sign (name none)
+
+field_counts : (d e : ℕ) (mods : List JModifier) (x : JDeclaration) → FieldStands d e x → Counts (declaration_levels x) (modifiers_tokens mods ++ declaration_tokens x)
+field_counts d e mods x s =
+    before (modifiers_count mods) (before (final_counts x.is_final) (before (type_counts d x.kind s.kind)
+    (deep (listed_counts JDeclarator declarator_tokens declarator_levels (DeclaratorStands e) (declarator_counts e) x.commas x.names s.between s.all))))
+
+top_field_counts : (d e : ℕ) (mods : List JModifier) (x : JDeclaration) → FieldStands d e x → Counts (all_levels (map initial_levels x.names)) (modifiers_tokens mods ++ declaration_tokens x)
+top_field_counts d e mods x s =
+    before (modifiers_count mods) (before (final_counts x.is_final) (before (type_counts d x.kind s.kind)
+    (listed_counts JDeclarator declarator_tokens initial_levels (DeclaratorStands e) (initial_counts e) x.commas x.names s.between s.all)))
+
+-- the head of a member that is no field
+quiet_counts : (ts : Tokens) → Quiet ts → Counts [] ts
+quiet_counts [] q = none
+quiet_counts (Token.Sign mark at ∷ ts) q = sign (quiet_counts ts q.1)
+quiet_counts (Token.Word keyword at ∷ ts) q = word (quiet_counts ts q.1)
+quiet_counts (Token.Id n at ∷ ts) q = name (quiet_counts ts q.1)
+quiet_counts (Token.Literal x at ∷ ts) q = record { same = (quiet_counts ts q.1).same }
+quiet_counts (Token.ArrowBody at span ∷ ts) q = let e = q.0 in absurd (cc e)
+quiet_counts (Token.CloseBody at span ∷ ts) q = let e = q.0 in absurd (cc e)
+
+pub member_counts : (d e : ℕ) (x : JMemberHead) → MemberStands d e x → Counts (member_levels x) (member_tokens x)
+member_counts d e (head.Field mods x) s = field_counts d e mods x s
+member_counts d e head.Empty s = none
+member_counts d e (head.Method mods params result n at formals throws) s = quiet_counts _ (member_quiet d e (head.Method mods params result n at formals throws) refl s)
+member_counts d e (head.Constructor mods n at formals throws) s = quiet_counts _ (member_quiet d e (head.Constructor mods n at formals throws) refl s)
+member_counts d e (head.Initializer static) s = quiet_counts _ (member_quiet d e (head.Initializer static) refl s)
+
+pub top_counts : (d e : ℕ) (x : JMemberHead) → MemberStands d e x → Counts (top_levels x) (member_tokens x)
+top_counts d e (head.Field mods x) s = top_field_counts d e mods x s
+top_counts d e head.Empty s = none
+top_counts d e (head.Method mods params result n at formals throws) s = quiet_counts _ (member_quiet d e (head.Method mods params result n at formals throws) refl s)
+top_counts d e (head.Constructor mods n at formals throws) s = quiet_counts _ (member_quiet d e (head.Constructor mods n at formals throws) refl s)
+top_counts d e (head.Initializer static) s = quiet_counts _ (member_quiet d e (head.Initializer static) refl s)
+
+arguments_count : (d : ℕ) (x : Option JArguments) → arguments_stand d x → Counts (arguments_levels x) (arguments_tokens x)
+arguments_count d None s = none
+arguments_count d (Some x) s = sign (behind (exprs_count d x.commas x.items s.0 s.1) (sign none))
+
+end_counts : (x : Option Position) → Counts [] (end_tokens x)
+end_counts None = none
+end_counts (Some at) = sign none
+
+pub constants_count : (d : ℕ) (x : JConstants) → ConstantsStand d x → Counts (constants_levels x) (constants_tokens x)
+constants_count d x s =
+    behind (listed_counts JConstant constant_tokens constant_levels (ConstantStands d) (λ y t. name (arguments_count d y.arguments t)) x.commas x.items s.0 s.1) (before (trailing_counts x.more) (end_counts x.end))
