@@ -1,22 +1,16 @@
 -- A head has as many levels as spans, so that each of its bodies has one.
-use Rattle.std.proofs.Common.{◌≡◌, ◌≤◌, ℕ, zero, suc, Bool, true, false, not, ◌++◌, List, [], ◌∷◌, length, map, Option, Some, None, refl, ap, sym, ◌∙◌, subst, append_assoc, arith}
+use Rattle.std.proofs.Common.{◌≡◌, ℕ, zero, suc, true, false, ◌++◌, List, [], ◌∷◌, length, map, Option, Some, None, refl, ap, sym, ◌∙◌, subst, arith}
 use Rattle.std.specs.List.{AllByRecursion}
 use Rattle.java_tree.specs.declared.tokens.Position.{Position}
 use Rattle.java_tree.specs.declared.tokens.Mark.{Mark}
 use Rattle.java_tree.specs.declared.tokens.Mark.TheVariants as m
 use Rattle.java_tree.specs.Seen.{Token}
-use Rattle.java_tree.specs.declared.exprs.PrefixOp.{PrefixOp}
-use Rattle.java_tree.specs.declared.exprs.PrefixOp.TheVariants as prefix
 use Rattle.java_tree.specs.declared.tokens.Keyword.{Keyword}
-use Rattle.java_tree.specs.declared.tokens.Keyword.TheVariants as w
-use Rattle.java_tree.specs.declared.exprs.PostfixOp.{PostfixOp}
-use Rattle.java_tree.specs.declared.exprs.PostfixOp.TheVariants as postfix
 use Rattle.java_tree.specs.declared.exprs.BinaryOp.{BinaryOp}
 use Rattle.java_tree.specs.declared.exprs.BinaryOp.TheVariants as op
 use Rattle.java_tree.specs.declared.exprs.AssignOp.{AssignOp}
 use Rattle.java_tree.specs.declared.exprs.AssignOp.TheVariants as assign
 use Rattle.java_tree.specs.declared.exprs.Span.{Span}
-use Rattle.java_tree.specs.declared.exprs.JLiteral.{JLiteral}
 use Rattle.java_tree.specs.declared.exprs.JCreated.{JCreated}
 use Rattle.java_tree.specs.declared.exprs.JCreated.TheVariants as created
 use Rattle.java_tree.specs.declared.exprs.JTypedParam.{JTypedParam}
@@ -24,15 +18,13 @@ use Rattle.java_tree.specs.declared.exprs.JParam.{JParam}
 use Rattle.java_tree.specs.declared.exprs.JParams.{JParams}
 use Rattle.java_tree.specs.declared.exprs.JParams.TheVariants as params
 use Rattle.java_tree.specs.declared.types.JDotted.{JDotted}
-use Rattle.java_tree.specs.declared.types.JQualified.{JQualified}
 use Rattle.java_tree.specs.declared.types.JBrackets.{JBrackets}
-use Rattle.java_tree.specs.declared.types.JType.{JType, out-JType, map-JType, fold_out-JType}
+use Rattle.java_tree.specs.declared.types.JType.{JType, out-JType, map-JType}
 use Rattle.java_tree.specs.declared.types.JType.TheOpen.{JType-F}
 use Rattle.java_tree.specs.declared.exprs.JExpr.{JExpr, out-JExpr, map-JExpr, fold_out-JExpr}
 use Rattle.java_tree.specs.declared.exprs.JExpr.TheOpen.{JExpr-F}
 use Rattle.java_tree.specs.Seen.{Tokens}
-use Rattle.java_tree.specs.Trees.{more_tokens, listed, closing, AreBetween, prefix_mark, postfix_mark, operator_tokens, assign_tokens, level, init_level, any_level, top, top_by, tokens, tokens_by, type_tokens, type_tokens_by, type_stands_by, TypeStands, TypedStands, stands_by, Stands, params_stand, created_stands, begins_sign, is_least, dotted_tokens, qualified_tokens, brackets_tokens, param_tokens, final_tokens, typed_tokens, params_tokens, created_tokens, args_close, trailing, braces_tokens}
-use Rattle.java_reading.specs.Reading.{after_close, begins_primitive, begins_operand, begins_names, ends_name, begins_inferred, begins_inferred_by, dotted, closes, is_some}
+use Rattle.java_tree.specs.Trees.{more_tokens, listed, AreBetween, operator_tokens, assign_tokens, init_level, any_level, tokens, tokens_by, type_tokens, type_tokens_by, type_stands_by, TypeStands, TypedStands, stands_by, Stands, params_stand, created_stands, dotted_tokens, qualified_tokens, brackets_tokens, param_tokens, final_tokens, typed_tokens, params_tokens, created_tokens, args_close, trailing, braces_tokens}
 use Rattle.std.proofs.lemmas.List.{length-append, length-map}
 use Rattle.java_heads.specs.declared.declarations.JValue.{JValue}
 use Rattle.java_heads.specs.declared.declarations.JDeclarator.{JDeclarator}
@@ -48,9 +40,9 @@ use Rattle.java_heads.specs.declared.statements.JLock.{JLock}
 use Rattle.java_heads.specs.declared.statements.JLock.TheVariants as lock
 use Rattle.java_heads.specs.declared.statements.JSwitchLabel.{JSwitchLabel}
 use Rattle.java_heads.specs.declared.statements.JSwitchLabel.TheVariants as label
-use Rattle.java_heads.specs.Heads.{value_tokens, declarator_tokens, declaration_tokens, value_stands, DeclaratorStands, DeclarationStands, StatementStands, label_tokens, maybe_tokens, args_tokens, simple_tokens, maybe_stands, SimpleStands, start_tokens, for_tokens, StartStands, ForStands, lock_tokens, LockStands, switch_tokens, SwitchStands}
+use Rattle.java_heads.specs.Heads.{value_tokens, declarator_tokens, declaration_tokens, value_stands, DeclaratorStands, DeclarationStands, StatementStands, label_tokens, maybe_tokens, simple_tokens, maybe_stands, SimpleStands, start_tokens, for_tokens, StartStands, ForStands, lock_tokens, LockStands, switch_tokens, SwitchStands}
 use Rattle.java_spelling.proofs.First.{tokens_out, type_tokens_out, Any, any}
-use Rattle.java_units.specs.Levels.{Levels, all_levels, deeper, body_level, levels_by, levels, list_levels, maybe_levels, value_levels, declarator_levels, declaration_levels, simple_levels, start_levels, for_levels, lock_levels, switch_levels}
+use Rattle.java_units.specs.Levels.{Levels, all_levels, body_level, levels_by, levels, list_levels, maybe_levels, value_levels, declarator_levels, declaration_levels, simple_levels, start_levels, for_levels, lock_levels, switch_levels}
 use Rattle.java_members.specs.declared.modifiers.ModifierKind.{ModifierKind}
 use Rattle.java_members.specs.declared.modifiers.ModifierKind.TheVariants as modifier
 use Rattle.java_members.specs.declared.modifiers.JModifier.{JModifier}

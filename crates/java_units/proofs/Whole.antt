@@ -8,10 +8,9 @@ use Rattle.java_tree.specs.declared.tokens.Keyword.TheVariants as w
 use Rattle.java_tree.specs.Seen.{Token, Tokens}
 use Rattle.java_tree.specs.declared.types.JDotted.{JDotted}
 use Rattle.java_tree.specs.Trees.{dotted_tokens, max_depth}
-use Rattle.java_reading.specs.Reading.{Read, Reader, ◌>>=◌, whole}
+use Rattle.java_reading.specs.Reading.{◌>>=◌, whole}
 use Rattle.java_reading.proofs.Tools.{bind_some, cond_is, some_same}
 use Rattle.java_heads.proofs.Whole.{whole_only}
-use Rattle.java_members.specs.declared.homes.JHome.{JHome}
 use Rattle.java_members.specs.declared.homes.JHome.TheVariants as home
 use Rattle.java_members.specs.declared.modifiers.ModifierKind.{ModifierKind}
 use Rattle.java_members.specs.declared.modifiers.ModifierKind.TheVariants as modifier
@@ -24,7 +23,7 @@ use Rattle.java_members.specs.declared.lines.JConstants.{JConstants}
 use Rattle.java_members.specs.declared.lines.JPackage.{JPackage}
 use Rattle.java_members.specs.declared.lines.JImport.{JImport}
 use Rattle.java_members.specs.declared.lines.JStar.{JStar}
-use Rattle.java_members.specs.Heads.{modifier_tokens, modifiers_tokens, member_tokens, type_head_tokens, package_tokens, import_tokens, star_tokens, MemberStands, TypeHeadStands}
+use Rattle.java_members.specs.Heads.{modifier_tokens, modifiers_tokens, member_tokens, type_head_tokens, package_tokens, import_tokens, star_tokens}
 use Rattle.java_members.specs.Reading.{package_line, import_line}
 use Rattle.java_members.proofs.Files.{package_is_spelled, package_is_read, import_is_spelled, import_is_read}
 use Rattle.java_units.specs.declared.statements.JBody.{JBody}
@@ -34,10 +33,10 @@ use Rattle.java_units.specs.declared.statements.JStatement.{JStatement}
 use Rattle.java_units.specs.declared.statements.JBody.TheOpen.{JMember-F}
 use Rattle.java_units.specs.declared.units.JUnit.{JUnit}
 use Rattle.java_units.specs.Tokens.{joined, filled, braced, constants_by, body_tokens, statement_tokens, whole_member_tokens, package_part, unit_tokens}
-use Rattle.java_units.specs.Standing.{Owner, owner_of, home_of, Node, NodeStands, TopStands, FileStands, top_levels, top_stands, file_stands, UnitSpells}
+use Rattle.java_units.specs.Standing.{Owner, home_of, NodeStands, TopStands, FileStands, top_levels, top_stands, file_stands, UnitSpells}
 use Rattle.java_units.specs.Reading as r
 use Rattle.java_units.proofs.Texts.{tokens_Declared, tokens_Bodied, tokens_Type}
-use Rattle.java_units.proofs.Sound.{ManyIs, many_sound}
+use Rattle.java_units.proofs.Sound.{many_sound}
 use Rattle.java_units.proofs.MemberSound.{Layer, MemberIs, member_made, declared_sound, bodied_sound, type_sound}
 use Rattle.java_units.proofs.Soundness.{sounds}
 use Rattle.java_units.proofs.Quiet.{Quiet, is_quiet, member_quiet, head_quiet, member_no_type, head_is_type}
@@ -56,10 +55,10 @@ top_sound n owner nested ts y e =
     elim (cond_is (r.goes_declared ts) _ _ _ e) [
       | inl h ↦ declared_sound P (r.readers n) (sounds n) max_depth (suc max_depth) 199 top_levels owner Q (λ x bodies end fits stands heads. (fits, stands, heads)) ts y h.1
       | inr h ↦ elim (cond_is (r.goes_type ts) _ _ _ h.1) [
-          | inl g ↦ type_sound P (r.readers n) (sounds n) max_depth (r.tops n) (TopStands n) nested (home_of owner) Q
-              (λ x left cs bodies xs right fits stands constants follows all. (fits, stands, constants, follows, all)) ts y g.1
-          | inr g ↦ bodied_sound P (r.readers n) (sounds n) max_depth (suc max_depth) max_depth owner Q (λ x left xs right fits stands block. (fits, stands, block)) ts y g.1
-        ]
+        | inl g ↦ type_sound P (r.readers n) (sounds n) max_depth (r.tops n) (TopStands n) nested (home_of owner) Q
+            (λ x left cs bodies xs right fits stands constants follows all. (fits, stands, constants, follows, all)) ts y g.1
+        | inr g ↦ bodied_sound P (r.readers n) (sounds n) max_depth (suc max_depth) max_depth owner Q (λ x left xs right fits stands block. (fits, stands, block)) ts y g.1
+      ]
     ]
 
 pub tops_sound : (n : ℕ) (owner : Owner) (ts : Tokens) (y : JMember × Tokens) → r.tops n owner ts ≡ Some y → (ts ≡ whole_member_tokens y.0 ++ y.1) × TopStands n owner y.0
@@ -294,8 +293,8 @@ package_split x rest =
 import_split : (x : JImport) (rest : Tokens) → r.line (import_tokens x ++ rest) ≡ (import_tokens x, rest)
 import_split x rest =
     ap (λ (l : Tokens). r.line (Token.Word w.Import x.at ∷ Token.Id x.name.name x.name.at ∷ l)) (
-      append_assoc (dotted_tokens x.name.rest) (star_tokens x.star ++ Token.Sign m.Semicolon x.end ∷ []) rest
-      ∙ ap (λ (l : Tokens). dotted_tokens x.name.rest ++ l) (append_assoc (star_tokens x.star) (Token.Sign m.Semicolon x.end ∷ []) rest)
+    append_assoc (dotted_tokens x.name.rest) (star_tokens x.star ++ Token.Sign m.Semicolon x.end ∷ []) rest
+    ∙ ap (λ (l : Tokens). dotted_tokens x.name.rest ++ l) (append_assoc (star_tokens x.star) (Token.Sign m.Semicolon x.end ∷ []) rest)
     )
     ∙ ap (λ (p : Tokens × Tokens). (Token.Word w.Import x.at ∷ Token.Id x.name.name x.name.at ∷ p.0, p.1))
     (line_dotted x.name.rest (star_tokens x.star ++ Token.Sign m.Semicolon x.end ∷ rest) (star_tokens x.star ++ Token.Sign m.Semicolon x.end ∷ [], rest) (line_star x.star x.end rest))
