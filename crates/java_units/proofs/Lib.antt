@@ -11,3 +11,4 @@ pub mod MemberAgain
 pub mod Theorem
 pub mod Whole
 pub mod Counted
+pub mod Wider
