@@ -9,3 +9,6 @@ pub mod Again
 pub mod Quiet
 pub mod MemberAgain
 pub mod Theorem
+pub mod Whole
+pub mod Counted
+pub mod Wider

@@ -42,7 +42,7 @@ use Rattle.java_units.proofs.Passing.{Passes, passed}
 use Rattle.java_units.proofs.Quiet.{Quiet, member_quiet, head_quiet, declared_past, curly_past, close_past, Declares, member_declares, member_no_type, head_is_type, member_passes, constants_pass}
 use Rattle.java_units.proofs.Again.{Items, until_again, braced_again, on_follows, goes_on, fresh_on, fresh_group, group_close, Member_begins, Agains, bodies_again, head_again, inner_again, block_again}
 
-abbrev Layer : Type 0
+abbrev pub Layer : Type 0
 Layer = JMember-F JBody JMember JStatement JCase JCaseGroup JCatch
 
 pub fits_precede : (owner : Owner) (has_body : Bool) (x : JMemberHead) → member_fits owner has_body x ≡ true → may_precede has_body x ≡ true
@@ -208,7 +208,7 @@ module _ (P : ℕ → Node → Type 0) (R : r.Readers) (S : Agains P R) where
   -- ---- any member
 
   -- from what a constructor makes to the layer, where `step` reads it
-  carried : (step : Reader JMember) (layer : Layer) (x : JMember) (text rest : Tokens) → roll-JMember layer ≡ x → whole_member_tokens x ≡ text → step (text ++ rest) ≡ Some (x, rest)
+  pub carried : (step : Reader JMember) (layer : Layer) (x : JMember) (text rest : Tokens) → roll-JMember layer ≡ x → whole_member_tokens x ≡ text → step (text ++ rest) ≡ Some (x, rest)
       → step (whole_member_tokens (roll-JMember layer) ++ rest) ≡ Some (roll-JMember layer, rest)
   carried step layer x text rest rolls spelled reads =
       let G : JMember → Type 0 = λ z. step (whole_member_tokens z ++ rest) ≡ Some (z, rest) in

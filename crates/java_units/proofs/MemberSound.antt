@@ -42,7 +42,7 @@ use Rattle.java_units.specs.Standing.{owner_of, home_of, member_fits, member_lev
 use Rattle.java_units.proofs.Texts.{tokens_Declared, tokens_Bodied, tokens_Type, out_member}
 use Rattle.java_units.proofs.Sound.{open_curly_only, close_curly_only, semicolon_only, ManyIs, many_sound, braced_any, spans_counts, tail_bodies, Sounds, bodies_sound, head_sound, block_sound, inner_sound}
 
-abbrev Layer : Type 0
+abbrev pub Layer : Type 0
 Layer = JMember-F JBody JMember JStatement JCase JCaseGroup JCatch
 
 pub record MemberIs (Q : Layer → Type 0) (ts : Tokens) (y : JMember × Tokens) : Type 0 where
@@ -55,7 +55,7 @@ curly_text (Token.Sign m.OpenCurly at ∷ rest) = refl
 curly_text (x ∷ rest) = ap (λ (l : Tokens). x ∷ l) (curly_text rest)
 
 module _ (P : ℕ → Node → Type 0) (R : r.Readers) (S : Sounds P R) where
-  member_made : (Q : Layer → Type 0) (layer : Layer) (x : JMember) (ts rest text : Tokens) → roll-JMember layer ≡ x
+  pub member_made : (Q : Layer → Type 0) (layer : Layer) (x : JMember) (ts rest text : Tokens) → roll-JMember layer ≡ x
       → whole_member_tokens x ≡ text → ts ≡ text ++ rest → Q layer → MemberIs Q ts (x, rest)
   member_made Q layer x ts rest text rolls spelled same stands = record {
     same = same ∙ ap (λ l. l ++ rest) (sym spelled);

@@ -1,5 +1,5 @@
 -- What stands is read again in any number of steps, so that tokens spell at most one tree.
-use Rattle.std.proofs.Common.{◌≡◌, ◌≤◌, ℕ, zero, suc, true, false, List, [], ◌∷◌, ◌++◌, length, map, Some, None, refl, ap, sym, ◌∙◌, arith}
+use Rattle.std.proofs.Common.{◌≡◌, ◌≤◌, ◌+◌, ℕ, zero, suc, true, false, List, [], ◌∷◌, ◌++◌, length, map, Some, None, refl, ap, sym, ◌∙◌, arith}
 use Rattle.std.proofs.lemmas.List.{append-nil}
 use Rattle.java_tree.specs.Seen.{Tokens}
 use Rattle.java_reading.proofs.Tools.{some_same}
@@ -13,6 +13,7 @@ use Rattle.java_units.specs.Reading as r
 use Rattle.java_units.proofs.Texts.{case_tokens}
 use Rattle.java_units.proofs.Again.{Items, Agains, Follows, Fresh, Member_begins, statement_again, statement_fresh, body_again, label_again, case_begins, inner_items, until_again, goes_on, fresh_end}
 use Rattle.java_units.proofs.MemberAgain.{member_again, inner_begins}
+use Rattle.java_units.proofs.Wider.{all_wider, wider}
 
 nothing : (d : ℕ) (x : Node) → NodeStands 0 d x → ⊥
 unfolding NodeStands
@@ -86,8 +87,8 @@ ends_follows x = record { handles = refl; shut = λ h. refl }
 read_whole : (n d : ℕ) (place : Role) (x : JStatement) (ts : Tokens) → StatementSpells n d place x ts → r.statement_read n d place ts ≡ Some (x, [])
 read_whole n d place x ts s = ap (r.statement_read n d place) (sym s.same ∙ sym (append-nil (statement_tokens x))) ∙ statement_is_read n d place x [] s.stands (ends_follows x)
 
-pub statement_one : (n d : ℕ) (place : Role) (x y : JStatement) (ts : Tokens) → StatementSpells n d place x ts → StatementSpells n d place y ts → x ≡ y
-statement_one n d place x y ts s t = ap (λ (z : JStatement × Tokens). z.0) (some_same (sym (read_whole n d place x ts s) ∙ read_whole n d place y ts t))
+same_steps : (n d : ℕ) (place : Role) (x y : JStatement) (ts : Tokens) → StatementSpells n d place x ts → StatementSpells n d place y ts → x ≡ y
+same_steps n d place x y ts s t = ap (λ (z : JStatement × Tokens). z.0) (some_same (sym (read_whole n d place x ts s) ∙ read_whole n d place y ts t))
 
 list_whole : (n d : ℕ) (xs : List JStatement) (ts : Tokens) → StatementsSpell n d xs ts → r.until r.is_end ((r.readers n).statement d Role.Inner) ts ≡ Some (xs, [])
 list_whole n d xs ts s =
@@ -95,8 +96,8 @@ list_whole n d xs ts s =
     ap (r.until r.is_end item) (sym s.same ∙ sym (append-nil (joined (map statement_tokens xs))))
     ∙ until_again JStatement statement_tokens (λ x. NodeStands n d (Node.Statement Role.Inner x)) r.is_end item goes_on (inner_items (NodeStands n) (r.readers n) (agains n) d r.is_end fresh_end) xs [] s.stand refl refl
 
-pub statements_one : (n d : ℕ) (xs ys : List JStatement) (ts : Tokens) → StatementsSpell n d xs ts → StatementsSpell n d ys ts → xs ≡ ys
-statements_one n d xs ys ts s t = ap (λ (z : List JStatement × Tokens). z.0) (some_same (sym (list_whole n d xs ts s) ∙ list_whole n d ys ts t))
+list_steps : (n d : ℕ) (xs ys : List JStatement) (ts : Tokens) → StatementsSpell n d xs ts → StatementsSpell n d ys ts → xs ≡ ys
+list_steps n d xs ys ts s t = ap (λ (z : List JStatement × Tokens). z.0) (some_same (sym (list_whole n d xs ts s) ∙ list_whole n d ys ts t))
 
 runs : (ts rest : Tokens) → 1 ≤ length ts → r.is_end (ts ++ rest) ≡ false
 runs [] rest h = absurd (omega (arith, h))
@@ -116,5 +117,30 @@ members_whole n d xs ts s =
     ap (r.until r.is_end item) (sym s.same ∙ sym (append-nil (joined (map whole_member_tokens xs))))
     ∙ until_again JMember whole_member_tokens (λ x. NodeStands n d (Node.Member (Owner.Class None) x)) r.is_end item (λ ts. true) (member_items n d (Owner.Class None)) xs [] s.stand refl refl
 
-pub members_one : (n d : ℕ) (xs ys : List JMember) (ts : Tokens) → MembersSpell n d xs ts → MembersSpell n d ys ts → xs ≡ ys
-members_one n d xs ys ts s t = ap (λ (z : List JMember × Tokens). z.0) (some_same (sym (members_whole n d xs ts s) ∙ members_whole n d ys ts t))
+members_steps : (n d : ℕ) (xs ys : List JMember) (ts : Tokens) → MembersSpell n d xs ts → MembersSpell n d ys ts → xs ≡ ys
+members_steps n d xs ys ts s t = ap (λ (z : List JMember × Tokens). z.0) (some_same (sym (members_whole n d xs ts s) ∙ members_whole n d ys ts t))
+
+-- ---- in whichever numbers of steps
+
+pub statement_one : (n k d : ℕ) (place : Role) (x y : JStatement) (ts : Tokens) → StatementSpells n d place x ts → StatementSpells k d place y ts → x ≡ y
+statement_one n k d place x y ts s t =
+    same_steps (n + k) d place x y ts (record { stands = wider n (n + k) d (Node.Statement place x) (omega arith) s.stands; same = s.same })
+    (record { stands = wider k (n + k) d (Node.Statement place y) (omega arith) t.stands; same = t.same })
+
+list_wider : (n k d : ℕ) (xs : List JStatement) (ts : Tokens) → n ≤ k → StatementsSpell n d xs ts → StatementsSpell k d xs ts
+list_wider n k d xs ts h s = record {
+  stand = all_wider (λ x. NodeStands n d (Node.Statement Role.Inner x)) (λ x. NodeStands k d (Node.Statement Role.Inner x)) (λ x s. wider n k d (Node.Statement Role.Inner x) h s) xs s.stand;
+  same = s.same;
+}
+
+pub statements_one : (n k d : ℕ) (xs ys : List JStatement) (ts : Tokens) → StatementsSpell n d xs ts → StatementsSpell k d ys ts → xs ≡ ys
+statements_one n k d xs ys ts s t = list_steps (n + k) d xs ys ts (list_wider n (n + k) d xs ts (omega arith) s) (list_wider k (n + k) d ys ts (omega arith) t)
+
+members_wider : (n k d : ℕ) (xs : List JMember) (ts : Tokens) → n ≤ k → MembersSpell n d xs ts → MembersSpell k d xs ts
+members_wider n k d xs ts h s = record {
+  stand = all_wider (λ x. NodeStands n d (Node.Member (Owner.Class None) x)) (λ x. NodeStands k d (Node.Member (Owner.Class None) x)) (λ x s. wider n k d (Node.Member (Owner.Class None) x) h s) xs s.stand;
+  same = s.same;
+}
+
+pub members_one : (n k d : ℕ) (xs ys : List JMember) (ts : Tokens) → MembersSpell n d xs ts → MembersSpell k d ys ts → xs ≡ ys
+members_one n k d xs ys ts s t = members_steps (n + k) d xs ys ts (members_wider n (n + k) d xs ts (omega arith) s) (members_wider k (n + k) d ys ts (omega arith) t)

@@ -1,23 +1,29 @@
-//! What the grammar promises of statements and members, with a depth of at most the number d. The number n bounds the
-//! steps to their leaves.
+//! What the grammar promises of statements, members and units, with a depth of at most the number d where one is named.
+//! The numbers n and k bound the steps to their leaves.
 
 ghost use Rattle.std.specs.Prelude.{◌≡◌, ℕ, List};
 ghost use Rattle.java_tree.specs.Seen.{Tokens};
-ghost use Rattle.java_units.specs.Standing.{MembersSpell, Role, StatementSpells, StatementsSpell};
+ghost use Rattle.java_units.specs.Standing.{MembersSpell, Role, StatementSpells, StatementsSpell, UnitSpells};
 ghost use Rattle.java_units.specs.declared.statements.JMember.{JMember};
 ghost use Rattle.java_units.specs.declared.statements.JStatement.{JStatement};
+ghost use Rattle.java_units.specs.declared.units.JUnit.{JUnit};
 
 /// Tokens spell at most one statement.
 pub fn one_statement()
-    ensures { (n d : ℕ) (place : Role) (x y : JStatement) (text : Tokens) → StatementSpells n d place x text → StatementSpells n d place y text → x ≡ y }
+    ensures { (n k d : ℕ) (place : Role) (x y : JStatement) (text : Tokens) → StatementSpells n d place x text → StatementSpells k d place y text → x ≡ y }
 {}
 
 /// Tokens between the braces of a block spell its statements in at most one way.
 pub fn one_block()
-    ensures { (n d : ℕ) (xs ys : List JStatement) (text : Tokens) → StatementsSpell n d xs text → StatementsSpell n d ys text → xs ≡ ys }
+    ensures { (n k d : ℕ) (xs ys : List JStatement) (text : Tokens) → StatementsSpell n d xs text → StatementsSpell k d ys text → xs ≡ ys }
 {}
 
 /// Tokens between the braces of an anonymous class spell its members in at most one way.
 pub fn one_body()
-    ensures { (n d : ℕ) (xs ys : List JMember) (text : Tokens) → MembersSpell n d xs text → MembersSpell n d ys text → xs ≡ ys }
+    ensures { (n k d : ℕ) (xs ys : List JMember) (text : Tokens) → MembersSpell n d xs text → MembersSpell k d ys text → xs ≡ ys }
+{}
+
+/// The tokens of a file spell what it declares in at most one way.
+pub fn one_unit()
+    ensures { (x y : JUnit) (text : Tokens) → UnitSpells x text → UnitSpells y text → (x.package ≡ y.package) × (x.imports ≡ y.imports) × (x.types ≡ y.types) }
 {}
