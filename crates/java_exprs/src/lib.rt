@@ -14,6 +14,3 @@ mod suffixes;
 pub use climb::read;
 pub use found::ExprFound;
 pub use parse::parse_expr;
-
-#[cfg(test)]
-mod tests;
