@@ -11,32 +11,12 @@ import subprocess
 import sys
 
 sys.path.insert(0, os.path.join(os.path.dirname(os.path.abspath(__file__)), ".."))
-from timing import run
-
-
-def built(top, folder):
-    """The program in a workspace of its own."""
-    place = os.path.join(folder, "crates/lexed")
-    program = os.path.join(place, "out/lexed")
-    if not os.path.exists(program):
-        os.makedirs(os.path.join(place, "src"))
-        shutil.copy(os.path.join(top, "HANDLES"), folder)
-        shutil.copy(os.path.join(top, "bench/lex/program.txt"), os.path.join(place, "src/main.rt"))
-        lines = ["lexed: java_lexer java_tree j2k_base anyhow\n"]
-        for line in open(os.path.join(top, "crates.txt")):
-            name = line.split(":")[0]
-            if name in ("j2k_base", "java_tree", "java_letters", "java_words", "java_lexer"):
-                lines.append(line)
-                shutil.copytree(os.path.join(top, "crates", name), os.path.join(folder, "crates", name))
-        with open(os.path.join(folder, "crates.txt"), "w") as file:
-            file.writelines(lines)
-        subprocess.run(["rt", "run"], cwd=place, capture_output=True)
-    return program
+from timing import built, run
 
 
 def main():
     top, folder = os.getcwd(), os.path.abspath(sys.argv[1])
-    program = built(top, folder)
+    program = built(top, folder, "lexed", os.path.join(top, "bench/lex/program.txt"), ["java_lexer", "java_tree", "j2k_base", "anyhow"])
     for size in sys.argv[2:] or ["1048576", "16777216"]:
         java = os.path.join(folder, "java" + size)
         subprocess.run([sys.executable, os.path.join(top, "bench/lex/generate.py"), java, size], check=True)

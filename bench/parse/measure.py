@@ -5,41 +5,18 @@ Run it at the top. A workspace with the crates and the program of program.txt is
 built there, which takes some minutes. It wants the command /usr/bin/time.
 """
 import os
-import shutil
-import subprocess
 import sys
 
 sys.path.insert(0, os.path.join(os.path.dirname(os.path.abspath(__file__)), ".."))
-from timing import run
+from timing import built, run
 
-CRATES = ("j2k_base", "java_tree", "java_letters", "java_words", "java_lexer", "java_reading", "java_spelling", "java_pieces",
-          "java_parts", "java_exprs")
 PART = "f(a + b * 2, c == d ? e : g, new int[] {1, 2}, h.i(j)[k], (int) l, x -> { y(); z = 1; }), "
-
-
-def built(top, folder):
-    """The program in a workspace of its own."""
-    place = os.path.join(folder, "crates/parsed")
-    program = os.path.join(place, "out/parsed")
-    if not os.path.exists(program):
-        os.makedirs(os.path.join(place, "src"))
-        shutil.copy(os.path.join(top, "HANDLES"), folder)
-        shutil.copy(os.path.join(top, "bench/parse/program.txt"), os.path.join(place, "src/main.rt"))
-        lines = ["parsed: java_exprs java_lexer java_tree j2k_base anyhow\n"]
-        for line in open(os.path.join(top, "crates.txt")):
-            name = line.split(":")[0]
-            if name in CRATES:
-                lines.append(line)
-                shutil.copytree(os.path.join(top, "crates", name), os.path.join(folder, "crates", name))
-        with open(os.path.join(folder, "crates.txt"), "w") as file:
-            file.writelines(lines)
-        subprocess.run(["rt", "run"], cwd=place, capture_output=True)
-    return program
 
 
 def main():
     top, folder = os.getcwd(), os.path.abspath(sys.argv[1])
-    program = built(top, folder)
+    text = os.path.join(top, "bench/parse/program.txt")
+    program = built(top, folder, "parsed", text, ["java_exprs", "java_lexer", "java_tree", "j2k_base", "anyhow"])
     for size in map(int, sys.argv[2:] or ["1000000", "4000000", "16000000"]):
         text = os.path.join(folder, f"list{size}")
         with open(text, "w") as file:
