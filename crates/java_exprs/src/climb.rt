@@ -5,9 +5,9 @@ ghost use Rattle.java_reading.specs.Reading as r;
 ghost use Rattle.java_pieces.specs.Shown.{shown};
 ghost use Rattle.java_parts.specs.Gives.{Gives};
 ghost use Rattle.java_exprs.specs.Rules as g;
-ghost use Rattle.java_exprs.specs.Exprs.{ExprFits, IsExpr, expr_found, Nests, turn, grown_found, GrownFits};
+ghost use Rattle.java_exprs.specs.Exprs.{ExprFits, ExprsFit, IsExpr, expr_found, exprs_found, Nests, turn, grown_found, GrownFits};
 
-use crate::found::{ExprFound, Grown};
+use crate::found::{ExprFound, ExprsFound, Grown};
 use crate::grammar::Grammar;
 use j2k_base::NoMemory;
 use java_parts::{next_suffix, onward, strength, takes, top};
@@ -129,4 +129,15 @@ pub fn read<'a>(
         read,
     }
     .level_read(least, pieces)
+}
+
+/// The arguments up to their `)`, each no deeper than `depth`, and the pieces after them.
+pub fn arguments<'a>(
+    alloc: Global,
+    pieces: Pieces<'a>,
+    depth: usize,
+) -> Result<Option<(ExprsFound, Pieces<'a>)>, NoMemory>
+    ensures { Gives exprs_found (ExprsFit depth) (g.args_from depth (shown pieces.now)) result }
+{
+    Grammar { alloc, depth, read }.args_from(pieces)
 }

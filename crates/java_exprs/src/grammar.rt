@@ -60,7 +60,6 @@ impl<
         pieces: Pieces<'a>,
     ) -> Result<Option<(ExprsFound, Pieces<'a>)>, NoMemory>
         requires nests { Nests self.now.depth (F.pre self.now.read) (F.post self.now.read) }
-        requires room { self.now.depth < usize.MAX }
         ensures { Gives exprs_found (ExprsFit self.now.depth) (r.some_by r.comma (r.read self.now.depth s.any_level) (shown pieces.now)) result }
     {
         let Some((found, rest)) = self.sub(pieces, 1)? else {
@@ -79,7 +78,6 @@ impl<
         mut pieces: Pieces<'a>,
     ) -> Result<Option<(ExprsFound, Pieces<'a>)>, NoMemory>
         requires nests { Nests self.now.depth (F.pre self.now.read) (F.post self.now.read) }
-        requires room { self.now.depth < usize.MAX }
         requires fits { ExprsFit self.now.depth (found, pieces) }
         ensures { Gives exprs_found (ExprsFit self.now.depth) (r.more_by r.comma (r.read self.now.depth s.any_level) (length pieces.entry.now) found.items found.commas (shown pieces.entry.now)) result }
     {
@@ -105,7 +103,6 @@ impl<
         pieces: Pieces<'a>,
     ) -> Result<Option<(ExprsFound, Pieces<'a>)>, NoMemory>
         requires nests { Nests self.now.depth (F.pre self.now.read) (F.post self.now.read) }
-        requires room { self.now.depth < usize.MAX }
         ensures { Gives exprs_found (ExprsFit self.now.depth) (g.args_from self.now.depth (shown pieces.now)) result }
     {
         if args_end(pieces).is_some() {

@@ -11,6 +11,6 @@ mod operands;
 mod parse;
 mod suffixes;
 
-pub use climb::read;
-pub use found::ExprFound;
+pub use climb::{arguments, read};
+pub use found::{ExprFound, ExprsFound};
 pub use parse::parse_expr;
