@@ -33,7 +33,7 @@ use Rattle.java_units.specs.declared.statements.JStatement.{JStatement}
 use Rattle.java_units.specs.declared.statements.JBody.TheOpen.{JMember-F}
 use Rattle.java_units.specs.declared.units.JUnit.{JUnit}
 use Rattle.java_units.specs.Tokens.{joined, filled, braced, constants_by, body_tokens, statement_tokens, whole_member_tokens, package_part, unit_tokens}
-use Rattle.java_units.specs.Standing.{Owner, home_of, NodeStands, TopStands, FileStands, top_levels, top_stands, file_stands, UnitSpells}
+use Rattle.java_units.specs.Standing.{Owner, home_of, NodeStands, TopStands, FileStands, top_levels, top_stands, file_stands, steps, UnitSpells}
 use Rattle.java_units.specs.Reading as r
 use Rattle.java_units.proofs.Texts.{tokens_Declared, tokens_Bodied, tokens_Type}
 use Rattle.java_units.proofs.Sound.{many_sound}
@@ -47,17 +47,17 @@ use Rattle.java_units.proofs.Theorem.{agains}
 -- ---- members
 
 top_sound : (n : ℕ) (owner : Owner) → ((owner : Owner) (ts : Tokens) (y : JMember × Tokens) → r.tops n owner ts ≡ Some y → (ts ≡ whole_member_tokens y.0 ++ y.1) × TopStands n owner y.0)
-    → (ts : Tokens) (y : JMember × Tokens) → r.top_step (r.readers n) (r.tops n) owner ts ≡ Some y → MemberIs (top_stands (NodeStands n) (TopStands n) owner) ts y
+    → (ts : Tokens) (y : JMember × Tokens) → r.top_step (r.readers steps) (r.tops n) owner ts ≡ Some y → MemberIs (top_stands (NodeStands steps) (TopStands n) owner) ts y
 unfolding r.top_step
 top_sound n owner nested ts y e =
-    let P = NodeStands n in
-    let Q : Layer → Type 0 = top_stands (NodeStands n) (TopStands n) owner in
+    let P = NodeStands steps in
+    let Q : Layer → Type 0 = top_stands (NodeStands steps) (TopStands n) owner in
     elim (cond_is (r.goes_declared ts) _ _ _ e) [
-      | inl h ↦ declared_sound P (r.readers n) (sounds n) max_depth (suc max_depth) 199 top_levels owner Q (λ x bodies end fits stands heads. (fits, stands, heads)) ts y h.1
+      | inl h ↦ declared_sound P (r.readers steps) (sounds steps) max_depth (suc max_depth) 199 top_levels owner Q (λ x bodies end fits stands heads. (fits, stands, heads)) ts y h.1
       | inr h ↦ elim (cond_is (r.goes_type ts) _ _ _ h.1) [
-        | inl g ↦ type_sound P (r.readers n) (sounds n) max_depth (r.tops n) (TopStands n) nested (home_of owner) Q
+        | inl g ↦ type_sound P (r.readers steps) (sounds steps) max_depth (r.tops n) (TopStands n) nested (home_of owner) Q
             (λ x left cs bodies xs right fits stands constants follows all. (fits, stands, constants, follows, all)) ts y g.1
-        | inr g ↦ bodied_sound P (r.readers n) (sounds n) max_depth (suc max_depth) max_depth owner Q (λ x left xs right fits stands block. (fits, stands, block)) ts y g.1
+        | inr g ↦ bodied_sound P (r.readers steps) (sounds steps) max_depth (suc max_depth) max_depth owner Q (λ x left xs right fits stands block. (fits, stands, block)) ts y g.1
       ]
     ]
 
@@ -66,50 +66,50 @@ unfolding r.tops TopStands
 tops_sound zero owner ts y e = absurd (cc e)
 tops_sound (suc n) owner ts y e = let i = top_sound n owner (λ owner ts y e. tops_sound n owner ts y e) ts y e in (i.same, i.stands)
 
-module _ (n : ℕ) (nested : Nested (NodeStands n) (r.readers n) (agains n) (r.tops n) (TopStands n)) where
-  declared_step : (owner : Owner) (x : JMemberHead) (xs : List JBody) (end : Position) (rest : Tokens) → top_stands (NodeStands n) (TopStands n) owner (JMember-F.Declared x xs end)
-      → r.top_step (r.readers n) (r.tops n) owner ((filled (member_tokens x) (map body_tokens xs) ++ Token.Sign m.Semicolon end ∷ []) ++ rest) ≡ Some (member.Declared x xs end, rest)
+module _ (n : ℕ) (nested : Nested (NodeStands steps) (r.readers steps) (agains steps) (r.tops n) (TopStands n)) where
+  declared_step : (owner : Owner) (x : JMemberHead) (xs : List JBody) (end : Position) (rest : Tokens) → top_stands (NodeStands steps) (TopStands n) owner (JMember-F.Declared x xs end)
+      → r.top_step (r.readers steps) (r.tops n) owner ((filled (member_tokens x) (map body_tokens xs) ++ Token.Sign m.Semicolon end ∷ []) ++ rest) ≡ Some (member.Declared x xs end, rest)
   unfolding r.top_step
   declared_step owner x xs end rest s =
-      rw (declared_goes (NodeStands n) (r.readers n) (agains n) max_depth (suc max_depth) owner x xs end rest s.0 s.1).goes
-      (declared_again (NodeStands n) (r.readers n) (agains n) max_depth (suc max_depth) 199 top_levels owner x xs end rest s.0 s.1 s.2)
+      rw (declared_goes (NodeStands steps) (r.readers steps) (agains steps) max_depth (suc max_depth) owner x xs end rest s.0 s.1).goes
+      (declared_again (NodeStands steps) (r.readers steps) (agains steps) max_depth (suc max_depth) 199 top_levels owner x xs end rest s.0 s.1 s.2)
 
-  bodied_step : (owner : Owner) (x : JMemberHead) (left : Position) (xs : List JStatement) (right : Position) (rest : Tokens) → top_stands (NodeStands n) (TopStands n) owner (JMember-F.Bodied x left xs right)
-      → r.top_step (r.readers n) (r.tops n) owner ((member_tokens x ++ braced left (map statement_tokens xs) right) ++ rest) ≡ Some (member.Bodied x left xs right, rest)
+  bodied_step : (owner : Owner) (x : JMemberHead) (left : Position) (xs : List JStatement) (right : Position) (rest : Tokens) → top_stands (NodeStands steps) (TopStands n) owner (JMember-F.Bodied x left xs right)
+      → r.top_step (r.readers steps) (r.tops n) owner ((member_tokens x ++ braced left (map statement_tokens xs) right) ++ rest) ≡ Some (member.Bodied x left xs right, rest)
   unfolding r.top_step
   bodied_step owner x left xs right rest s =
       let may = fits_precede owner true x s.0 in
       let inner : Tokens = joined (map statement_tokens xs) ++ Token.Sign m.CloseCurly right ∷ [] in
-      let g = curly_declared (NodeStands n) (r.readers n) (agains n) (member_tokens x) left inner rest (member_quiet max_depth (suc max_depth) x may s.1) in
+      let g = curly_declared (NodeStands steps) (r.readers steps) (agains steps) (member_tokens x) left inner rest (member_quiet max_depth (suc max_depth) x may s.1) in
       let t : r.goes_type ((member_tokens x ++ braced left (map statement_tokens xs) right) ++ rest) ≡ false =
       ap r.goes_type (append_assoc (member_tokens x) (braced left (map statement_tokens xs) right) rest) ∙ member_no_type max_depth (suc max_depth) x left (inner ++ rest) may s.1 in
-      rw (g, t) (bodied_again (NodeStands n) (r.readers n) (agains n) max_depth (suc max_depth) max_depth owner x left xs right rest s.0 s.1 s.2)
+      rw (g, t) (bodied_again (NodeStands steps) (r.readers steps) (agains steps) max_depth (suc max_depth) max_depth owner x left xs right rest s.0 s.1 s.2)
 
   type_step : (owner : Owner) (x : JTypeHead) (left : Position) (cs : Option JConstants) (bodies : List JBody) (xs : List JMember) (right : Position) (rest : Tokens)
-      → top_stands (NodeStands n) (TopStands n) owner (JMember-F.Type x left cs bodies xs right)
-      → r.top_step (r.readers n) (r.tops n) owner ((type_head_tokens x ++ Token.Sign m.OpenCurly left ∷ (constants_by cs (map body_tokens bodies) ++ (joined (map whole_member_tokens xs) ++ Token.Sign m.CloseCurly right ∷ []))) ++ rest)
+      → top_stands (NodeStands steps) (TopStands n) owner (JMember-F.Type x left cs bodies xs right)
+      → r.top_step (r.readers steps) (r.tops n) owner ((type_head_tokens x ++ Token.Sign m.OpenCurly left ∷ (constants_by cs (map body_tokens bodies) ++ (joined (map whole_member_tokens xs) ++ Token.Sign m.CloseCurly right ∷ []))) ++ rest)
       ≡ Some (member.Type x left cs bodies xs right, rest)
   unfolding r.top_step
   type_step owner x left cs bodies xs right rest s =
       let inner : Tokens = constants_by cs (map body_tokens bodies) ++ (joined (map whole_member_tokens xs) ++ Token.Sign m.CloseCurly right ∷ []) in
-      let g = curly_declared (NodeStands n) (r.readers n) (agains n) (type_head_tokens x) left inner rest (head_quiet max_depth x s.1) in
+      let g = curly_declared (NodeStands steps) (r.readers steps) (agains steps) (type_head_tokens x) left inner rest (head_quiet max_depth x s.1) in
       let t : r.goes_type ((type_head_tokens x ++ Token.Sign m.OpenCurly left ∷ inner) ++ rest) ≡ true =
       ap r.goes_type (append_assoc (type_head_tokens x) (Token.Sign m.OpenCurly left ∷ inner) rest) ∙ head_is_type x (Token.Sign m.OpenCurly left ∷ (inner ++ rest)) in
-      rw (g, t) (type_again (NodeStands n) (r.readers n) (agains n) max_depth (r.tops n) (TopStands n) nested (home_of owner) x left cs bodies xs right rest s.0 s.1 s.2 s.3 s.4)
+      rw (g, t) (type_again (NodeStands steps) (r.readers steps) (agains steps) max_depth (r.tops n) (TopStands n) nested (home_of owner) x left cs bodies xs right rest s.0 s.1 s.2 s.3 s.4)
 
-  top_layer : (owner : Owner) (layer : Layer) (rest : Tokens) → top_stands (NodeStands n) (TopStands n) owner layer
-      → r.top_step (r.readers n) (r.tops n) owner (whole_member_tokens (roll-JMember layer) ++ rest) ≡ Some (roll-JMember layer, rest)
+  top_layer : (owner : Owner) (layer : Layer) (rest : Tokens) → top_stands (NodeStands steps) (TopStands n) owner layer
+      → r.top_step (r.readers steps) (r.tops n) owner (whole_member_tokens (roll-JMember layer) ++ rest) ≡ Some (roll-JMember layer, rest)
   top_layer owner (JMember-F.Declared x xs end) rest s =
-      carried (NodeStands n) (r.readers n) (agains n) (r.top_step (r.readers n) (r.tops n) owner) (JMember-F.Declared x xs end) (member.Declared x xs end) _ rest (member.rolls-Declared x xs end) (tokens_Declared x xs end)
+      carried (NodeStands steps) (r.readers steps) (agains steps) (r.top_step (r.readers steps) (r.tops n) owner) (JMember-F.Declared x xs end) (member.Declared x xs end) _ rest (member.rolls-Declared x xs end) (tokens_Declared x xs end)
       (declared_step owner x xs end rest s)
   top_layer owner (JMember-F.Bodied x left xs right) rest s =
-      carried (NodeStands n) (r.readers n) (agains n) (r.top_step (r.readers n) (r.tops n) owner) (JMember-F.Bodied x left xs right) (member.Bodied x left xs right) _ rest (member.rolls-Bodied x left xs right)
+      carried (NodeStands steps) (r.readers steps) (agains steps) (r.top_step (r.readers steps) (r.tops n) owner) (JMember-F.Bodied x left xs right) (member.Bodied x left xs right) _ rest (member.rolls-Bodied x left xs right)
       (tokens_Bodied x left xs right) (bodied_step owner x left xs right rest s)
   top_layer owner (JMember-F.Type x left cs bodies xs right) rest s =
-      carried (NodeStands n) (r.readers n) (agains n) (r.top_step (r.readers n) (r.tops n) owner) (JMember-F.Type x left cs bodies xs right) (member.Type x left cs bodies xs right) _ rest
+      carried (NodeStands steps) (r.readers steps) (agains steps) (r.top_step (r.readers steps) (r.tops n) owner) (JMember-F.Type x left cs bodies xs right) (member.Type x left cs bodies xs right) _ rest
       (member.rolls-Type x left cs bodies xs right) (tokens_Type x left cs bodies xs right) (type_step owner x left cs bodies xs right rest s)
 
-by_top : (n : ℕ) (owner : Owner) (layer : Layer) → top_stands (NodeStands n) (TopStands n) owner layer → Begins_by max_depth (suc max_depth) owner layer
+by_top : (n : ℕ) (owner : Owner) (layer : Layer) → top_stands (NodeStands steps) (TopStands n) owner layer → Begins_by max_depth (suc max_depth) owner layer
 by_top n owner (JMember-F.Declared x xs at) s = (s.0, s.1)
 by_top n owner (JMember-F.Bodied x left xs right) s = (s.0, s.1)
 by_top n owner (JMember-F.Type x left cs bodies xs right) s = s.1
@@ -117,16 +117,16 @@ by_top n owner (JMember-F.Type x left cs bodies xs right) s = s.1
 tops_begin : (n : ℕ) (owner : Owner) (x : JMember) → TopStands n owner x → Member_begins (whole_member_tokens x)
 unfolding TopStands
 tops_begin zero owner x s = absurd s
-tops_begin (suc n) owner x s = member_begins (NodeStands n) (r.readers n) (agains n) max_depth (suc max_depth) owner x (by_top n owner (out-JMember x) s)
+tops_begin (suc n) owner x s = member_begins (NodeStands steps) (r.readers steps) (agains steps) max_depth (suc max_depth) owner x (by_top n owner (out-JMember x) s)
 
 pub tops_again : (n : ℕ) (owner : Owner) (x : JMember) → TopStands n owner x → (rest : Tokens) → r.tops n owner (whole_member_tokens x ++ rest) ≡ Some (x, rest)
 unfolding r.tops TopStands
 tops_again zero owner x s rest = absurd s
 tops_again (suc n) owner x s rest =
-    let nested : Nested (NodeStands n) (r.readers n) (agains n) (r.tops n) (TopStands n) = record { reads = λ owner x s rest. tops_again n owner x s rest; begins = λ owner x s. tops_begin n owner x s } in
-    subst (λ (z : JMember). r.top_step (r.readers n) (r.tops n) owner (whole_member_tokens z ++ rest) ≡ Some (z, rest)) (roll-out-JMember x) (top_layer n nested owner (out-JMember x) rest s)
+    let nested : Nested (NodeStands steps) (r.readers steps) (agains steps) (r.tops n) (TopStands n) = record { reads = λ owner x s rest. tops_again n owner x s rest; begins = λ owner x s. tops_begin n owner x s } in
+    subst (λ (z : JMember). r.top_step (r.readers steps) (r.tops n) owner (whole_member_tokens z ++ rest) ≡ Some (z, rest)) (roll-out-JMember x) (top_layer n nested owner (out-JMember x) rest s)
 
-pub nested_tops : (n : ℕ) → Nested (NodeStands n) (r.readers n) (agains n) (r.tops n) (TopStands n)
+pub nested_tops : (n : ℕ) → Nested (NodeStands steps) (r.readers steps) (agains steps) (r.tops n) (TopStands n)
 nested_tops n = record { reads = λ owner x s rest. tops_again n owner x s rest; begins = λ owner x s. tops_begin n owner x s }
 
 -- ---- what stands at the top of a file
@@ -135,7 +135,7 @@ abbrev begins_semicolon : Tokens → Bool
 begins_semicolon (Token.Sign m.Semicolon at ∷ rest) = true
 begins_semicolon _ = false
 
-file_typed : (n : ℕ) (ts : Tokens) → begins_semicolon ts ≡ false → r.file_read n ts ≡ r.typed (r.readers n) max_depth (r.tops n) home.File ts
+file_typed : (n : ℕ) (ts : Tokens) → begins_semicolon ts ≡ false → r.file_read n ts ≡ r.typed (r.readers steps) max_depth (r.tops n) home.File ts
 unfolding r.file_read
 file_typed n (Token.Sign m.Semicolon at ∷ rest) h = absurd (cc h)
 file_typed n _ h = refl
@@ -143,14 +143,14 @@ file_typed n _ h = refl
 pub file_sound : (n : ℕ) (ts : Tokens) (y : JMember × Tokens) → r.file_read n ts ≡ Some y → (ts ≡ whole_member_tokens y.0 ++ y.1) × FileStands n y.0
 unfolding r.file_read
 file_sound n (Token.Sign m.Semicolon at ∷ rest) y e =
-    let Q : Layer → Type 0 = file_stands (NodeStands n) (TopStands n) in
-    let made = member_made (NodeStands n) (r.readers n) (sounds n) Q (JMember-F.Declared head.Empty [] at) (member.Declared head.Empty [] at) (Token.Sign m.Semicolon at ∷ rest) rest (Token.Sign m.Semicolon at ∷ [])
+    let Q : Layer → Type 0 = file_stands (NodeStands steps) (TopStands n) in
+    let made = member_made (NodeStands steps) (r.readers steps) (sounds steps) Q (JMember-F.Declared head.Empty [] at) (member.Declared head.Empty [] at) (Token.Sign m.Semicolon at ∷ rest) rest (Token.Sign m.Semicolon at ∷ [])
     (member.rolls-Declared head.Empty [] at) (tokens_Declared head.Empty [] at) refl refl in
     let i = subst (MemberIs Q (Token.Sign m.Semicolon at ∷ rest)) (some_same e) made in
     (i.same, i.stands)
 file_sound n ts y e =
-    let Q : Layer → Type 0 = file_stands (NodeStands n) (TopStands n) in
-    let i = type_sound (NodeStands n) (r.readers n) (sounds n) max_depth (r.tops n) (TopStands n) (tops_sound n) home.File Q
+    let Q : Layer → Type 0 = file_stands (NodeStands steps) (TopStands n) in
+    let i = type_sound (NodeStands steps) (r.readers steps) (sounds steps) max_depth (r.tops n) (TopStands n) (tops_sound n) home.File Q
     (λ x left cs bodies xs right fits stands constants follows all. (fits, stands, constants, follows, all)) ts y e in
     (i.same, i.stands)
 
@@ -167,10 +167,10 @@ semicolon_past : (a b : Tokens) → Quiet a → begins_semicolon b ≡ false →
 semicolon_past [] b f h = h
 semicolon_past (x ∷ a) b f h = quiet_semicolon x (a ++ b) f.0
 
-file_layer : (n : ℕ) (layer : Layer) (rest : Tokens) → file_stands (NodeStands n) (TopStands n) layer → r.file_read n (whole_member_tokens (roll-JMember layer) ++ rest) ≡ Some (roll-JMember layer, rest)
+file_layer : (n : ℕ) (layer : Layer) (rest : Tokens) → file_stands (NodeStands steps) (TopStands n) layer → r.file_read n (whole_member_tokens (roll-JMember layer) ++ rest) ≡ Some (roll-JMember layer, rest)
 unfolding r.file_read
 file_layer n (JMember-F.Declared head.Empty xs at) rest s =
-    carried (NodeStands n) (r.readers n) (agains n) (r.file_read n) (JMember-F.Declared head.Empty xs at) (member.Declared head.Empty xs at) _ rest (member.rolls-Declared head.Empty xs at) (tokens_Declared head.Empty xs at)
+    carried (NodeStands steps) (r.readers steps) (agains steps) (r.file_read n) (JMember-F.Declared head.Empty xs at) (member.Declared head.Empty xs at) _ rest (member.rolls-Declared head.Empty xs at) (tokens_Declared head.Empty xs at)
     (ap (λ (l : List JBody). Option.Some (member.Declared head.Empty l at, rest)) (sym s))
 file_layer n (JMember-F.Declared (head.Field mods x) xs at) rest s = absurd s
 file_layer n (JMember-F.Declared (head.Method mods params result name nat formals throws) xs at) rest s = absurd s
@@ -182,9 +182,9 @@ file_layer n (JMember-F.Type x left cs bodies xs right) rest s =
     let text : Tokens = type_head_tokens x ++ Token.Sign m.OpenCurly left ∷ inner in
     let b : begins_semicolon (text ++ rest) ≡ false =
     ap begins_semicolon (append_assoc (type_head_tokens x) (Token.Sign m.OpenCurly left ∷ inner) rest) ∙ semicolon_past (type_head_tokens x) (Token.Sign m.OpenCurly left ∷ (inner ++ rest)) (head_quiet max_depth x s.1) refl in
-    carried (NodeStands n) (r.readers n) (agains n) (r.file_read n) (JMember-F.Type x left cs bodies xs right) (member.Type x left cs bodies xs right) text rest
+    carried (NodeStands steps) (r.readers steps) (agains steps) (r.file_read n) (JMember-F.Type x left cs bodies xs right) (member.Type x left cs bodies xs right) text rest
     (member.rolls-Type x left cs bodies xs right) (tokens_Type x left cs bodies xs right)
-    (file_typed n (text ++ rest) b ∙ type_again (NodeStands n) (r.readers n) (agains n) max_depth (r.tops n) (TopStands n) (nested_tops n) home.File x left cs bodies xs right rest s.0 s.1 s.2 s.3 s.4)
+    (file_typed n (text ++ rest) b ∙ type_again (NodeStands steps) (r.readers steps) (agains steps) max_depth (r.tops n) (TopStands n) (nested_tops n) home.File x left cs bodies xs right rest s.0 s.1 s.2 s.3 s.4)
 
 pub file_again : (n : ℕ) (x : JMember) → FileStands n x → (rest : Tokens) → r.file_read n (whole_member_tokens x ++ rest) ≡ Some (x, rest)
 file_again n x s rest = subst (λ (z : JMember). r.file_read n (whole_member_tokens z ++ rest) ≡ Some (z, rest)) (roll-out-JMember x) (file_layer n (out-JMember x) rest s)
@@ -228,7 +228,7 @@ record FileStarts (ts : Tokens) : Type 0 where
 starts_made : (layer : Layer) (x : JMember) (text : Tokens) → roll-JMember layer ≡ x → whole_member_tokens x ≡ text → FileStarts text → FileStarts (whole_member_tokens (roll-JMember layer))
 starts_made layer x text rolls spelled h = subst FileStarts (sym (ap whole_member_tokens rolls ∙ spelled)) h
 
-starts_layer : (n : ℕ) (layer : Layer) → file_stands (NodeStands n) (TopStands n) layer → FileStarts (whole_member_tokens (roll-JMember layer))
+starts_layer : (n : ℕ) (layer : Layer) → file_stands (NodeStands steps) (TopStands n) layer → FileStarts (whole_member_tokens (roll-JMember layer))
 starts_layer n (JMember-F.Declared head.Empty xs at) s =
     starts_made (JMember-F.Declared head.Empty xs at) (member.Declared head.Empty xs at) _ (member.rolls-Declared head.Empty xs at) (tokens_Declared head.Empty xs at)
     (record { full = omega arith; begins = λ rest. record { no_import = refl; no_package = refl } })

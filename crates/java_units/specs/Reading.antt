@@ -31,7 +31,7 @@ use Rattle.java_units.specs.declared.statements.JStatement.{JStatement}
 use Rattle.java_units.specs.declared.statements.JStatement.TheVariants as st
 use Rattle.java_units.specs.Levels.{Levels, levels, simple_levels, for_levels, lock_levels, switch_levels, constants_levels}
 use Rattle.java_units.specs.Cutting.{Stop, cut}
-use Rattle.java_units.specs.Standing.{Role, may_stand, Owner, owner_of, home_of, member_fits, member_levels, top_levels, spans}
+use Rattle.java_units.specs.Standing.{Role, may_stand, Owner, owner_of, home_of, member_fits, member_levels, top_levels, spans, steps}
 
 -- ---- lists
 
@@ -407,12 +407,12 @@ top_step R nested owner ts =
 
 unfoldable pub tops : ℕ → Owner → Reader JMember
 tops zero owner ts = None
-tops (suc n) owner ts = top_step (readers n) (tops n) owner ts
+tops (suc n) owner ts = top_step (readers steps) (tops n) owner ts
 
 -- a type at the top of a file, or a `;` there
 unfoldable pub file_read : ℕ → Reader JMember
 file_read n (Token.Sign m.Semicolon at ∷ rest) = Some (member.Declared head.Empty [] at, rest)
-file_read n ts = typed (readers n) max_depth (tops n) home.File ts
+file_read n ts = typed (readers steps) max_depth (tops n) home.File ts
 
 -- the tokens as far as the first `;`
 abbrev pub line : Tokens → Tokens × Tokens

@@ -278,14 +278,19 @@ module _ (P : ℕ → Node → Type 0) (Q : Owner → JMember → Type 0) where
   file_stands (JMember-F.Type head left constants bodies members right) = type_stands home.File head constants bodies members
   file_stands _ = ⊥
 
+-- as many steps as a depth of 200 leaves room for: a body, a member of it and its block at each level, and the last leaf
+unfoldable pub steps : ℕ
+steps = 602
+
+-- The number bounds the types that stand in each other.
 unfoldable pub TopStands : ℕ → Owner → JMember → Type 0
 TopStands zero owner x = ⊥
-TopStands (suc n) owner x = top_stands (NodeStands n) (TopStands n) owner (out-JMember x)
+TopStands (suc n) owner x = top_stands (NodeStands steps) (TopStands n) owner (out-JMember x)
 
 abbrev pub FileStands : ℕ → JMember → Type 0
-FileStands n x = file_stands (NodeStands n) (TopStands n) (out-JMember x)
+FileStands n x = file_stands (NodeStands steps) (TopStands n) (out-JMember x)
 
--- The unit spells the tokens of a file. Each step to a part leaves a token behind, so that their number bounds the steps.
+-- The unit spells the tokens of a file. Each type leaves tokens behind, so that their number bounds the types in each other.
 pub record UnitSpells (unit : JUnit) (text : Tokens) : Type 0 where
   pub stands : AllByRecursion (FileStands (length text)) unit.types
   pub same : unit_tokens unit ≡ text

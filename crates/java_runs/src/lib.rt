@@ -1,0 +1,2 @@
+//! The runs of tokens of which a Java file consists, and the first that no form of its place spells.
+#![tactic(auto)]
