@@ -12,3 +12,4 @@ pub mod Theorem
 pub mod Whole
 pub mod Counted
 pub mod Wider
+pub mod Shorter

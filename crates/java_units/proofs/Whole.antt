@@ -114,7 +114,7 @@ by_top n owner (JMember-F.Declared x xs at) s = (s.0, s.1)
 by_top n owner (JMember-F.Bodied x left xs right) s = (s.0, s.1)
 by_top n owner (JMember-F.Type x left cs bodies xs right) s = s.1
 
-tops_begin : (n : ℕ) (owner : Owner) (x : JMember) → TopStands n owner x → Member_begins (whole_member_tokens x)
+pub tops_begin : (n : ℕ) (owner : Owner) (x : JMember) → TopStands n owner x → Member_begins (whole_member_tokens x)
 unfolding TopStands
 tops_begin zero owner x s = absurd s
 tops_begin (suc n) owner x s = member_begins (NodeStands steps) (r.readers steps) (agains steps) max_depth (suc max_depth) owner x (by_top n owner (out-JMember x) s)
