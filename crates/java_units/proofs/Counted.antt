@@ -56,7 +56,7 @@ use Rattle.java_units.specs.Standing.{spans, member_levels, top_levels, initial_
 use Rattle.java_units.specs.Levels.{arguments_levels, constant_levels, constants_levels}
 use Rattle.java_units.proofs.Quiet.{Quiet, member_quiet}
 
-levels_out : (x : JExpr) → levels x ≡ levels_by (map-JExpr JExpr Levels levels (out-JExpr x))
+pub levels_out : (x : JExpr) → levels x ≡ levels_by (map-JExpr JExpr Levels levels (out-JExpr x))
 unfolding levels
 levels_out x = fold_out-JExpr Levels levels_by x
 

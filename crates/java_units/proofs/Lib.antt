@@ -13,3 +13,4 @@ pub mod Whole
 pub mod Counted
 pub mod Wider
 pub mod Shorter
+pub mod Above

@@ -3,3 +3,4 @@ pub mod Levels
 pub mod Cutting
 pub mod Standing
 pub mod Reading
+pub mod Restarts
