@@ -1,10 +1,9 @@
 -- How deep the bodies of a head stand at least.
-use Rattle.std.proofs.Common.{◌≤◌, ℕ, zero, suc, List, [], ◌∷◌, ◌++◌, map, Option, Some, None, sym, subst, arith}
+use Rattle.std.proofs.Common.{◌≤◌, ℕ, suc, List, [], ◌∷◌, ◌++◌, map, Option, Some, None, sym, subst, arith}
 use Rattle.std.specs.List.{AllByRecursion}
 use Rattle.java_tree.specs.declared.exprs.Span.{Span}
 use Rattle.java_tree.specs.declared.exprs.JExpr.{JExpr, out-JExpr, map-JExpr}
 use Rattle.java_tree.specs.declared.exprs.JExpr.TheOpen.{JExpr-F}
-use Rattle.java_heads.specs.declared.declarations.JDeclarator.{JDeclarator}
 use Rattle.java_heads.specs.declared.statements.JSimple.{JSimple}
 use Rattle.java_heads.specs.declared.statements.JSimple.TheVariants as simple
 use Rattle.java_heads.specs.declared.statements.JForStart.{JForStart}
@@ -18,7 +17,6 @@ use Rattle.java_heads.specs.declared.statements.JSwitchLabel.TheVariants as labe
 use Rattle.java_members.specs.declared.heads.JMemberHead.{JMemberHead}
 use Rattle.java_members.specs.declared.heads.JMemberHead.TheVariants as head
 use Rattle.java_members.specs.declared.lines.JArguments.{JArguments}
-use Rattle.java_members.specs.declared.lines.JConstant.{JConstant}
 use Rattle.java_members.specs.declared.lines.JConstants.{JConstants}
 use Rattle.java_units.specs.Levels.{Levels, all_levels, body_level, levels_by, levels, declarator_levels, simple_levels, start_levels, for_levels, lock_levels, switch_levels, arguments_levels, constant_levels, constants_levels}
 use Rattle.java_units.specs.Standing.{member_levels}

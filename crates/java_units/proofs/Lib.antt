@@ -14,3 +14,4 @@ pub mod Counted
 pub mod Wider
 pub mod Shorter
 pub mod Above
+pub mod Enough

@@ -1,9 +1,11 @@
 //! What the grammar promises of statements, members and units, with a depth of at most the number d where one is named.
 //! The numbers n and k bound the steps to their leaves.
 
-ghost use Rattle.std.specs.Prelude.{◌≡◌, ℕ, List};
+ghost use Rattle.std.specs.Prelude.{◌≡◌, ◌≤◌, ◌*◌, ℕ, suc, List};
 ghost use Rattle.java_tree.specs.Seen.{Tokens};
-ghost use Rattle.java_units.specs.Standing.{MembersSpell, Role, StatementSpells, StatementsSpell, UnitSpells};
+ghost use Rattle.java_tree.specs.Trees.{max_depth};
+ghost use Rattle.java_units.specs.Restarts.{restarts};
+ghost use Rattle.java_units.specs.Standing.{MembersSpell, Node, NodeStands, Role, StatementSpells, StatementsSpell, UnitSpells};
 ghost use Rattle.java_units.specs.declared.statements.JMember.{JMember};
 ghost use Rattle.java_units.specs.declared.statements.JStatement.{JStatement};
 ghost use Rattle.java_units.specs.declared.units.JUnit.{JUnit};
@@ -26,4 +28,10 @@ pub fn one_body()
 /// The tokens of a file spell what it declares in at most one way.
 pub fn one_unit()
     ensures { (x y : JUnit) (text : Tokens) → UnitSpells x text → UnitSpells y text → (x.package ≡ y.package) × (x.imports ≡ y.imports) × (x.types ≡ y.types) }
+{}
+
+/// What stands at a depth of at most 200 in any number of steps stands in 602 of them for each time that depth is counted
+/// from 1 on the way to a leaf: once, and once more for each body in the arguments of an enum's constants.
+pub fn enough_steps()
+    ensures { (n d e : ℕ) (x : Node) → d ≤ max_depth → restarts x ≤ e → NodeStands n d x → NodeStands (602 * suc e) d x }
 {}
