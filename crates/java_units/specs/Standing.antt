@@ -278,7 +278,8 @@ module _ (P : ℕ → Node → Type 0) (Q : Owner → JMember → Type 0) where
   file_stands (JMember-F.Type head left constants bodies members right) = type_stands home.File head constants bodies members
   file_stands _ = ⊥
 
--- as many steps as a depth of 200 leaves room for: a body, a member of it and its block at each level, and the last leaf
+-- As many steps as a depth of 200 leaves room for: a body, a member of it and its block at each level, and the last leaf. The arguments of
+-- an enum's constants begin at depth 1 again; where they stand in each other this number bounds them too (own rule).
 unfoldable pub steps : ℕ
 steps = 602
 
