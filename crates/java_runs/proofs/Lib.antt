@@ -1,0 +1,4 @@
+pub mod Widening
+pub mod Endings
+pub mod Bodies
+pub mod Files
