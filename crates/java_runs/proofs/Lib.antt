@@ -2,3 +2,5 @@ pub mod Widening
 pub mod Endings
 pub mod Bodies
 pub mod Files
+pub mod Counts
+pub mod Balance

@@ -3,4 +3,4 @@
 
 mod laws;
 
-pub use laws::assembled;
+pub use laws::{assembled, closed};
