@@ -4,3 +4,4 @@ pub mod Bodies
 pub mod Files
 pub mod Counts
 pub mod Balance
+pub mod Once
