@@ -1,5 +1,5 @@
 -- The parts of an expression and its own body, and levels that stand deeper.
-use Rattle.std.specs.Prelude.{ℕ, ◌+◌, List, [], ◌∷◌, ◌++◌, map}
+use Rattle.std.specs.Prelude.{ℕ, ◌+◌, [], ◌∷◌, ◌++◌, map}
 use Rattle.java_tree.specs.declared.exprs.JExpr.{JExpr, out-JExpr, map-JExpr}
 use Rattle.java_tree.specs.declared.exprs.JExpr.TheOpen.{JExpr-F}
 use Rattle.java_units.specs.Levels.{Levels, all_levels, body_level, levels}

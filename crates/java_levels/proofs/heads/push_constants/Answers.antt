@@ -1,4 +1,4 @@
-use Rattle.std.proofs.Common.{◌≡◌, ◌≤◌, ◌<◌, ◌++◌, length, map, refl, rules, arith}
+use Rattle.std.proofs.Common.{length, refl, rules, arith}
 use Rattle.java_members.specs.declared.lines.JConstant.{JConstant}
 use Rattle.java_units.specs.Levels.{constant_levels}
 use Rattle.java_levels.proofs.Raised.{list_done, list_step}

@@ -1,4 +1,4 @@
-use Rattle.std.proofs.Common.{◌≡◌, ◌≤◌, ◌<◌, ◌++◌, length, map, refl, rules, arith}
+use Rattle.std.proofs.Common.{length, refl, rules, arith}
 use Rattle.java_heads.specs.declared.declarations.JDeclarator.{JDeclarator}
 use Rattle.java_units.specs.Standing.{initial_levels}
 use Rattle.java_levels.proofs.Raised.{list_done, list_step}

@@ -1,7 +1,7 @@
-use Rattle.std.proofs.Common.{rules, ◌≡◌, ◌+◌, ◌++◌, [], ◌∷◌, IfOk, length, vec_len, ℕ, ◌-◌, ◌*◌, ◌<◌, ◌≤◌, List, ap, sym, ◌∙◌, refl, arith}
+use Rattle.std.proofs.Common.{rules, ◌≡◌, ◌++◌, length, refl, arith}
 use Rattle.java_tree.specs.declared.exprs.JExpr.{JExpr}
 use Rattle.java_units.specs.Levels.{levels, list_levels}
-use Rattle.java_levels.specs.Parts.{raised, parts, own}
+use Rattle.java_levels.specs.Parts.{raised}
 use Rattle.java_levels.proofs.Raised.{list_done, list_step, list_within}
 use Rattle.java_levels.proofs.walk.+levels.Goals as goal
 

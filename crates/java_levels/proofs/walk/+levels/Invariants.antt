@@ -1,6 +1,6 @@
 use Rattle.std.proofs.Common.{◌≡◌, ◌≤◌, ◌+◌, ◌*◌, ◌++◌, length, map, max}
 use Rattle.java_tree.specs.Trees as s
-use Rattle.java_units.specs.Levels.{levels, list_levels}
+use Rattle.java_units.specs.Levels.{list_levels}
 use Rattle.java_levels.specs.Parts.{raised}
 use Rattle.java_levels.proofs.walk.+levels.Given as goal
 
