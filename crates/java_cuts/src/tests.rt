@@ -31,6 +31,7 @@ fn a_block_goes_into_the_head(rt: HostRuntime) -> Result<(), Fail> {
         token(TokenKind::Integer(2)),
     ];
     let pieces = raw(alloc, &tokens)?;
+    assert!(rt; pieces.len() == 7);
     let found = cut(alloc, Stop::Semicolon, pieces.as_slice())?;
     assert!(rt; found.is_some());
     if let Some(found) = found {
