@@ -1,4 +1,5 @@
-//! The levels of heads.
+//! The levels of heads: of each body in a head its depth, in the order of their `{`. What holds the head is at 1, and
+//! each part is one deeper than what it is part of. The only error is that memory runs out.
 
 ghost use Rattle.std.specs.Prelude.{◌≡◌, ◌++◌, IfOk, length, map};
 ghost use Rattle.java_units.specs.Levels.{all_levels, arguments_levels, constant_levels, constants_levels, declaration_levels, deeper, for_levels, levels, list_levels, lock_levels, maybe_levels, simple_levels, start_levels, switch_levels, value_levels};
@@ -15,7 +16,8 @@ use java_members::{JArguments, JConstant, JConstants, JMemberHead};
 use java_tree::JExpr;
 use std::alloc::Global;
 
-/// Of the condition of a statement, one deeper than the statement itself.
+/// The levels of the expression in the parentheses of an `if`, a loop or a switch (JLS 14.9, 14.11 to 14.13). The
+/// statement is at 1 and the expression at 2.
 #[tactic(auto, using(crate::proofs::Raised::heads))]
 pub fn condition(alloc: Global, x: &JExpr) -> Result<Vec<usize>, NoMemory>
     ensures { IfOk result (λ v. v.items ≡ condition_levels x.now) }
@@ -26,7 +28,7 @@ pub fn condition(alloc: Global, x: &JExpr) -> Result<Vec<usize>, NoMemory>
     Ok(found)
 }
 
-/// Of expressions that are parts of a head.
+/// Of expressions that are parts of what is at 1.
 #[tactic(auto, using(crate::proofs::Raised::heads))]
 fn part_list(alloc: Global, items: &[JExpr]) -> Result<Vec<usize>, NoMemory>
     ensures { IfOk result (λ v. v.items ≡ deeper (list_levels items.now)) }
@@ -98,7 +100,7 @@ fn declaration(alloc: Global, x: &JDeclaration) -> Result<Vec<usize>, NoMemory>
     Ok(found)
 }
 
-/// Of what stands before the `;` of a statement (JLS 14.4 to 14.18).
+/// The levels of what stands before the `;` of a statement (JLS 14.4 to 14.18). The statement is at 1.
 pub fn simple(alloc: Global, x: &JSimple) -> Result<Vec<usize>, NoMemory>
     ensures { IfOk result (λ v. v.items ≡ simple_levels x.now) }
 {
@@ -145,7 +147,7 @@ fn basic_for(
     join(first, rest)
 }
 
-/// Of what stands in the parentheses of a `for` (JLS 14.14).
+/// The levels of what stands in the parentheses of a `for` (JLS 14.14). The loop is at 1.
 pub fn for_head(alloc: Global, x: &JForHead) -> Result<Vec<usize>, NoMemory>
     ensures { IfOk result (λ v. v.items ≡ for_levels x.now) }
 {
@@ -157,7 +159,7 @@ pub fn for_head(alloc: Global, x: &JForHead) -> Result<Vec<usize>, NoMemory>
     }
 }
 
-/// Of the lock of a synchronized statement (JLS 14.19).
+/// The levels of the lock of a synchronized statement (JLS 14.19). The statement is at 1.
 pub fn lock(alloc: Global, x: &JLock) -> Result<Vec<usize>, NoMemory>
     ensures { IfOk result (λ v. v.items ≡ lock_levels x.now) }
 {
@@ -167,7 +169,7 @@ pub fn lock(alloc: Global, x: &JLock) -> Result<Vec<usize>, NoMemory>
     }
 }
 
-/// Of a label of a switch (JLS 14.11).
+/// The levels of a label of a switch (JLS 14.11). The label is at 1.
 pub fn label(alloc: Global, x: &JSwitchLabel) -> Result<Vec<usize>, NoMemory>
     ensures { IfOk result (λ v. v.items ≡ switch_levels x.now) }
 {
@@ -177,7 +179,8 @@ pub fn label(alloc: Global, x: &JSwitchLabel) -> Result<Vec<usize>, NoMemory>
     }
 }
 
-/// Of a member of a body that stands in an expression (JLS 8.3).
+/// The levels of a member of a body that stands in an expression (JLS 8.3). The member is at 1, its declarators at 2,
+/// their values at 3.
 pub fn member(alloc: Global, x: &JMemberHead) -> Result<Vec<usize>, NoMemory>
     ensures { IfOk result (λ v. v.items ≡ member_levels x.now) }
 {
@@ -187,7 +190,7 @@ pub fn member(alloc: Global, x: &JMemberHead) -> Result<Vec<usize>, NoMemory>
     }
 }
 
-/// Of a member that stands in no expression, whose values are at depth 1 (JLS 8.3).
+/// The levels of a member that stands in no expression (JLS 8.3). The values of its declarators are at 1.
 pub fn top(alloc: Global, x: &JMemberHead) -> Result<Vec<usize>, NoMemory>
     ensures { IfOk result (λ v. v.items ≡ top_levels x.now) }
 {
@@ -228,7 +231,7 @@ fn push_constants(
     Ok(())
 }
 
-/// Of the constants of an enum, whose arguments are at depth 1 (JLS 8.9.1).
+/// The levels of the constants of an enum (JLS 8.9.1). Their arguments are at 1.
 #[tactic(auto, using(crate::proofs::Raised::heads))]
 pub fn constants(alloc: Global, x: &JConstants) -> Result<Vec<usize>, NoMemory>
     ensures { IfOk result (λ v. v.items ≡ constants_levels x.now) }

@@ -1,7 +1,8 @@
 use super::*;
 use j2k_base::{Name, NoMemory};
-use java_heads::{JDeclaration, JDeclarator, JForHead, JForStart, JLock, JSimple};
-use java_heads::{JSwitchLabel, JValue};
+use java_heads::{
+    JDeclaration, JDeclarator, JForHead, JForStart, JLock, JSimple, JSwitchLabel, JValue,
+};
 use java_members::{JArguments, JConstant, JConstants, JMemberHead};
 use java_tree::{BinaryOp, JExpr, JParam, JParams, JType, Position, Primitive, Span};
 use sqlite_items::{Boxed, Items};
@@ -104,7 +105,7 @@ fn a_body_is_one_deeper_than_what_holds_it(rt: HostRuntime) -> Result<(), Fail> 
     let right = boxed_lambda(alloc)?;
     let tree = sum(left, right);
     let found = condition(alloc, &tree)?;
-    assert_eq!(rt; found.as_slice(), [5, 4]);
+    assert_eq!(rt; found.as_slice(), [5, 4].as_slice());
     Ok(())
 }
 
@@ -113,7 +114,7 @@ fn a_value_is_deeper_than_its_declaration(rt: HostRuntime) -> Result<(), Fail> {
     let alloc = rt.alloc();
     let line = JSimple::Declaration(declaration(alloc)?);
     let found = simple(alloc, &line)?;
-    assert_eq!(rt; found.as_slice(), [4]);
+    assert_eq!(rt; found.as_slice(), [4].as_slice());
     Ok(())
 }
 
@@ -123,8 +124,8 @@ fn a_field_is_as_deep_as_its_place(rt: HostRuntime) -> Result<(), Fail> {
     let field = JMemberHead::Field(Items::new(alloc), declaration(alloc)?);
     let nested = member(alloc, &field)?;
     let outer = top(alloc, &field)?;
-    assert_eq!(rt; nested.as_slice(), [4]);
-    assert_eq!(rt; outer.as_slice(), [2]);
+    assert_eq!(rt; nested.as_slice(), [4].as_slice());
+    assert_eq!(rt; outer.as_slice(), [2].as_slice());
     Ok(())
 }
 
@@ -135,7 +136,7 @@ fn parts_of_a_loop_follow_each_other(rt: HostRuntime) -> Result<(), Fail> {
     let updates = lambdas(alloc)?;
     let head = JForHead::Basic(start, at(), None, at(), updates, Items::new(alloc));
     let found = for_head(alloc, &head)?;
-    assert_eq!(rt; found.as_slice(), [4, 3]);
+    assert_eq!(rt; found.as_slice(), [4, 3].as_slice());
     Ok(())
 }
 
@@ -146,8 +147,8 @@ fn a_lock_and_a_label_hold_an_expression(rt: HostRuntime) -> Result<(), Fail> {
     let value = JSwitchLabel::Case(at(), paren(alloc)?, at());
     let of_lock = lock(alloc, &held)?;
     let of_label = label(alloc, &value)?;
-    assert_eq!(rt; of_lock.as_slice(), [3]);
-    assert_eq!(rt; of_label.as_slice(), [4]);
+    assert_eq!(rt; of_lock.as_slice(), [3].as_slice());
+    assert_eq!(rt; of_label.as_slice(), [4].as_slice());
     Ok(())
 }
 
@@ -156,6 +157,6 @@ fn arguments_of_a_constant_are_at_depth_one(rt: HostRuntime) -> Result<(), Fail>
     let alloc = rt.alloc();
     let list = constant(alloc)?;
     let found = constants(alloc, &list)?;
-    assert_eq!(rt; found.as_slice(), [2]);
+    assert_eq!(rt; found.as_slice(), [2].as_slice());
     Ok(())
 }

@@ -1,4 +1,7 @@
 //! The levels of an expression.
+//!
+//! The path has an entry for each form on the way. Its length is a `usize` however deep the tree is, so that a level
+//! always is one.
 
 ghost use Rattle.std.specs.Prelude.{◌≡◌, ◌+◌, ◌++◌, [], ◌∷◌, IfOk, length, vec_len};
 ghost use Rattle.java_units.specs.Levels.{levels, list_levels};

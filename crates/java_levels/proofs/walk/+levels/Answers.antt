@@ -16,5 +16,5 @@ push_list-loop-items-preserved t c = record {
 pub push_list-returns-clause-found : goal.push_list-returns-clause-found
 push_list-returns-clause-found t c =
     let e : c.loop-items.found.items ++ raised (length c.loop-items.path.items) (list_levels c.loop-items.items.now)
-        ≡ c.args.found.now.items ++ raised (length c.args.path.now.items) (list_levels c.args.items.now) = c.loop-items.invariant.same in
+    ≡ c.args.found.now.items ++ raised (length c.args.path.now.items) (list_levels c.args.items.now) = c.loop-items.invariant.same in
     list_done JExpr levels (length c.loop-items.path.items) c.loop-items.items.now c.loop-items.found.items _ (omega arith) e
