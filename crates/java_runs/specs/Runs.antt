@@ -42,16 +42,16 @@ kind (Token.Word w.Interface at) = Kind.Declares
 kind (Token.Word w.Enum at) = Kind.Declares
 kind _ = Kind.Other
 
--- where a run is: how many of its brackets are open, whether the `}` of the outermost ends it, and whether `class`,
--- `interface` or `enum`, and a `=`, came before outside of its brackets
+-- where a run is: how many of its brackets are open, whether the `}` of the outermost ends it, and whether outside of its
+-- brackets there came `class`, `interface` or `enum` with no `=` before it, and a `=`
 pub record Place : Type 0 where
-  pub open : ℕ
+  pub depth : ℕ
   pub ends : Bool
   pub is_type : Bool
   pub has_value : Bool
 
 abbrev pub start : Place
-start = record { open = 0; ends = false; is_type = false; has_value = false }
+start = record { depth = 0; ends = false; is_type = false; has_value = false }
 
 pub data Turn : Type 0 where
   On : Place → Turn
@@ -62,33 +62,35 @@ pub data Turn : Type 0 where
 
 abbrev pub outside : Bool → Bool → Kind → Turn
 outside t v Kind.OpenCurly =
-    if t then Turn.Stop End.Body else Turn.On (record { open = 1; ends = not v; is_type = t; has_value = v })
+    if t then Turn.Stop End.Body else Turn.On (record { depth = 1; ends = not v; is_type = t; has_value = v })
 outside t v Kind.CloseCurly = Turn.Left
-outside t v Kind.Opens = Turn.On (record { open = 1; ends = false; is_type = t; has_value = v })
+outside t v Kind.Opens = Turn.On (record { depth = 1; ends = false; is_type = t; has_value = v })
 outside t v Kind.Closes = Turn.Left
 outside t v Kind.Semicolon = Turn.Stop End.Semicolon
-outside t v Kind.Assign = Turn.On (record { open = 0; ends = false; is_type = t; has_value = true })
-outside t v Kind.Declares = Turn.On (record { open = 0; ends = false; is_type = true; has_value = v })
-outside t v Kind.Other = Turn.On (record { open = 0; ends = false; is_type = t; has_value = v })
+outside t v Kind.Assign = Turn.On (record { depth = 0; ends = false; is_type = t; has_value = true })
+outside t false Kind.Declares = Turn.On (record { depth = 0; ends = false; is_type = true; has_value = false })
+outside t true Kind.Declares = Turn.On (record { depth = 0; ends = false; is_type = t; has_value = true })
+outside t v Kind.Other = Turn.On (record { depth = 0; ends = false; is_type = t; has_value = v })
 
+-- A `}` closes the outermost bracket, or one of others.
 abbrev pub closed : ℕ → Bool → Bool → Bool → Turn
 closed zero true t v = Turn.Stop End.Block
-closed n e t v = Turn.On (record { open = n; ends = e; is_type = t; has_value = v })
+closed n e t v = Turn.On (record { depth = n; ends = e; is_type = t; has_value = v })
 
 -- where suc n brackets are open
 abbrev pub inside : ℕ → Bool → Bool → Bool → Kind → Turn
-inside n e t v Kind.OpenCurly = Turn.On (record { open = suc (suc n); ends = e; is_type = t; has_value = v })
-inside n e t v Kind.Opens = Turn.On (record { open = suc (suc n); ends = e; is_type = t; has_value = v })
+inside n e t v Kind.OpenCurly = Turn.On (record { depth = suc (suc n); ends = e; is_type = t; has_value = v })
+inside n e t v Kind.Opens = Turn.On (record { depth = suc (suc n); ends = e; is_type = t; has_value = v })
 inside n e t v Kind.CloseCurly = closed n e t v
-inside n e t v Kind.Closes = closed n e t v
-inside n e t v kind = Turn.On (record { open = suc n; ends = e; is_type = t; has_value = v })
+inside n e t v Kind.Closes = Turn.On (record { depth = n; ends = e; is_type = t; has_value = v })
+inside n e t v kind = Turn.On (record { depth = suc n; ends = e; is_type = t; has_value = v })
 
 abbrev pub turned_by : ℕ → Bool → Bool → Bool → Kind → Turn
 turned_by zero e t v k = outside t v k
 turned_by (suc n) e t v k = inside n e t v k
 
 abbrev pub turned : Place → Kind → Turn
-turned p k = turned_by p.open p.ends p.is_type p.has_value k
+turned p k = turned_by p.depth p.ends p.is_type p.has_value k
 
 abbrev pub with_token : Token → Run → Run
 with_token x r = record { text = x ∷ r.text; end = r.end; rest = r.rest }
