@@ -131,7 +131,7 @@ module _ (P : ℕ → Node → Type 0) (R : r.Readers) (S : Agains P R) where
       ap (λ e. listed x.commas (map constant_tokens x.items) ++ (trailing x.more ++ end_tokens e)) h ∙ sym (append_assoc (listed x.commas (map constant_tokens x.items)) (trailing x.more) (end_tokens end))
 
   -- where a `}` or a `;` follows
-  constants_again : (x : JConstants) (xs : List JBody) (end : Option Position) (rest : Tokens) → x.end ≡ end → (end ≡ None → r.begins_close rest ≡ true) → ConstantsStand max_depth x
+  pub constants_again : (x : JConstants) (xs : List JBody) (end : Option Position) (rest : Tokens) → x.end ≡ end → (end ≡ None → r.begins_close rest ≡ true) → ConstantsStand max_depth x
       → HeadStands P 199 (constants_tokens x) (constants_levels x) xs → r.constants_list R (filled (constants_tokens x) (map body_tokens xs) ++ rest) ≡ Some (record { head = x; bodies = xs }, rest)
   constants_again x xs (Some at) rest is closes stands heads =
       constants_text x xs (listed x.commas (map constant_tokens x.items) ++ trailing x.more) (Token.Sign m.Semicolon at ∷ []) rest (constants_end_is at rest x (Some at) is) (mark_tail m.Semicolon at refl)

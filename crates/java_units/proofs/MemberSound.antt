@@ -146,12 +146,12 @@ module _ (P : ℕ → Node → Type 0) (R : r.Readers) (S : Sounds P R) where
   end_text (Token.Sign m.Semicolon at ∷ rest) = refl
   end_text _ = refl
 
-  record ConstantsAre (ts : Tokens) (y : r.Headed JConstants × Tokens) : Type 0 where
-    same : ts ≡ filled (constants_tokens y.0.head) (map body_tokens y.0.bodies) ++ y.1
-    head : ConstantsStand max_depth y.0.head
-    bodies : HeadStands P 199 (constants_tokens y.0.head) (constants_levels y.0.head) y.0.bodies
+  pub record ConstantsAre (ts : Tokens) (y : r.Headed JConstants × Tokens) : Type 0 where
+    pub same : ts ≡ filled (constants_tokens y.0.head) (map body_tokens y.0.bodies) ++ y.1
+    pub head : ConstantsStand max_depth y.0.head
+    pub bodies : HeadStands P 199 (constants_tokens y.0.head) (constants_levels y.0.head) y.0.bodies
 
-  constants_sound : (ts : Tokens) (y : r.Headed JConstants × Tokens) → r.constants_list R ts ≡ Some y → ConstantsAre ts y
+  pub constants_sound : (ts : Tokens) (y : r.Headed JConstants × Tokens) → r.constants_list R ts ≡ Some y → ConstantsAre ts y
   unfolding r.constants_list
   constants_sound ts y e =
       let a = bind_some (cut Stop.Constants ts) _ _ e in

@@ -1,0 +1,6 @@
+//! What the forms of runs promise.
+#![tactic(auto)]
+
+mod laws;
+
+pub use laws::one_form;
