@@ -18,6 +18,9 @@ turn_stop x ts t go end e = ap (λ (u : r.Turn). r.run_turn x ts u go) e
 turn_left : (x : Token) (ts : Tokens) (t : r.Turn) (go : r.Place → r.Run) → t ≡ r.Turn.Left → r.run_turn x ts t go ≡ record { text = []; end = r.End.Level; rest = x ∷ ts }
 turn_left x ts t go e = ap (λ (u : r.Turn). r.run_turn x ts u go) e
 
+one_more : (a b c : ℕ) → a ≡ suc b → b ≡ c → a ≡ c + 1
+one_more a b c h g = omega (arith, h, g)
+
 on : (p q : r.Place) (ts us : Tokens) (k : r.Kind) → kinded ts ≡ Some (k, us) → r.turned p k ≡ r.Turn.On q
     → (length (r.run_from p ts).text ≡ length (r.run_from q us).text + 1) × ((r.run_from p ts).end ≡ (r.run_from q us).end)
 unfolding r.run_from
@@ -26,11 +29,10 @@ on p q (x ∷ ts) us k e t =
     let same : (r.kind x, ts) ≡ (k, us) = some_same e in
     let kinds : r.kind x ≡ k = ap (λ (y : r.Kind × Tokens). y.0) same in
     let rests : ts ≡ us = ap (λ (y : r.Kind × Tokens). y.1) same in
-    let one : r.run_from p (x ∷ ts) ≡ r.with_token x (r.run_from q ts) = turn_on x ts (r.turned p (r.kind x)) (λ q. r.run_from q ts) q (ap (r.turned p) kinds ∙ t) in
-    let n : length (r.run_from q ts).text + 1 ≡ length (r.run_from q us).text + 1 = ap (λ (l : Tokens). length (r.run_from q l).text + 1) rests in
-    let m : length (r.run_from p (x ∷ ts)).text ≡ suc (length (r.run_from q ts).text) = ap (λ (z : r.Run). length z.text) one in
-    let long : length (r.run_from p (x ∷ ts)).text ≡ length (r.run_from q us).text + 1 = omega (arith, n, m) in
-    (long, ap (λ (z : r.Run). z.end) one ∙ ap (λ (l : Tokens). (r.run_from q l).end) rests)
+    let one : r.run_from p (x ∷ ts) ≡ r.with_token x (r.run_from q ts) = turn_on x ts (r.turned p (r.kind x)) (λ q. r.run_from q ts) q (ap (r.turned p) kinds ∙ t) in (
+      one_more (length (r.run_from p (x ∷ ts)).text) (length (r.run_from q ts).text) (length (r.run_from q us).text) (ap (λ (z : r.Run). length z.text) one) (ap (λ (l : Tokens). length (r.run_from q l).text) rests),
+      ap (λ (z : r.Run). z.end) one ∙ ap (λ (l : Tokens). (r.run_from q l).end) rests,
+    )
 
 stop : (p : r.Place) (ts us : Tokens) (k : r.Kind) (end : r.End) → kinded ts ≡ Some (k, us) → r.turned p k ≡ r.Turn.Stop end
     → (length (r.run_from p ts).text ≡ 1) × ((r.run_from p ts).end ≡ end)
