@@ -1,3 +1,4 @@
 pub mod Runs
 pub mod Again
 pub mod Sound
+pub mod Faults

@@ -3,4 +3,4 @@
 
 mod laws;
 
-pub use laws::one_form;
+pub use laws::{one_fault, one_form};

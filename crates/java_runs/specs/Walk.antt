@@ -1,5 +1,5 @@
 -- The first run of a file that no form of its place spells.
-use Rattle.std.specs.Prelude.{◌≡◌, ◌<◌, ◌-◌, ℕ, zero, suc, Bool, true, false, List, [], ◌∷◌, ◌++◌, length, map, Option, Some, None}
+use Rattle.std.specs.Prelude.{◌≡◌, ◌<◌, ◌-◌, ℕ, true, List, [], ◌∷◌, ◌++◌, length, map}
 use Rattle.java_tree.specs.declared.tokens.Position.{Position}
 use Rattle.java_tree.specs.declared.tokens.Mark.TheVariants as m
 use Rattle.java_tree.specs.Seen.{Token, Tokens}
@@ -16,8 +16,7 @@ use Rattle.java_members.specs.Heads.{type_head_tokens, constants_tokens, package
 use Rattle.java_members.specs.Modifiers.{type_fits}
 use Rattle.java_units.specs.declared.statements.JBody.{JBody}
 use Rattle.java_units.specs.declared.statements.JMember.{JMember, out-JMember}
-use Rattle.java_units.specs.declared.statements.JMember.TheVariants as member
-use Rattle.java_units.specs.declared.statements.JBody.TheOpen.{JBody-F, JCase-F, JCaseGroup-F, JCatch-F, JMember-F, JStatement-F}
+use Rattle.java_units.specs.declared.statements.JBody.TheOpen.{JMember-F}
 use Rattle.java_units.specs.declared.statements.JStatement.{JStatement}
 use Rattle.java_units.specs.declared.statements.JCase.{JCase}
 use Rattle.java_units.specs.declared.statements.JCaseGroup.{JCaseGroup}

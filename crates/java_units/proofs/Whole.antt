@@ -353,17 +353,23 @@ imports_begin (x ∷ xs) rest h = refl
 abbrev Declares : JUnit → r.Declared
 Declares unit = record { within = unit.package; imports = unit.imports; types = unit.types }
 
+-- Parts of a file that stand are read again.
+pub parts_are_read : (n : ℕ) (within : Option JPackage) (imports : List JImport) (types : List JMember) → AllByRecursion (FileStands n) types
+    → r.unit_read n (package_part within ++ (joined (map import_tokens imports) ++ joined (map whole_member_tokens types))) ≡ Some (record { within = within; imports = imports; types = types })
+unfolding r.unit_read
+parts_are_read n within imports types all =
+    let I : Tokens = joined (map import_tokens imports) in
+    let T : Tokens = joined (map whole_member_tokens types) in
+    let begins : FileBegins T = subst FileBegins (append-nil T) (types_begin n types all) in
+    let p = package_again within (I ++ T) (imports_begin imports T begins.no_package) in
+    let i = until_again JImport import_tokens Any r.no_import r.import_read (λ ts. true) import_items imports T (any imports) (ap not begins.no_import) refl in
+    let t : r.until r.is_end (r.file_read n) T ≡ Some (types, []) = ap (r.until r.is_end (r.file_read n)) (sym (append-nil T)) ∙ types_again n types all in
+    rw (p, i, t) refl
+
 -- What a file declares is read again.
 pub unit_is_read : (n : ℕ) (unit : JUnit) → AllByRecursion (FileStands n) unit.types → r.unit_read n (unit_tokens unit) ≡ Some (Declares unit)
-unfolding r.unit_read unit_tokens
-unit_is_read n unit all =
-    let I : Tokens = joined (map import_tokens unit.imports) in
-    let T : Tokens = joined (map whole_member_tokens unit.types) in
-    let begins : FileBegins T = subst FileBegins (append-nil T) (types_begin n unit.types all) in
-    let p = package_again unit.package (I ++ T) (imports_begin unit.imports T begins.no_package) in
-    let i = until_again JImport import_tokens Any r.no_import r.import_read (λ ts. true) import_items unit.imports T (any unit.imports) (ap not begins.no_import) refl in
-    let t : r.until r.is_end (r.file_read n) T ≡ Some (unit.types, []) = ap (r.until r.is_end (r.file_read n)) (sym (append-nil T)) ∙ types_again n unit.types all in
-    rw (p, i, t) refl
+unfolding unit_tokens
+unit_is_read n unit all = parts_are_read n unit.package unit.imports unit.types all
 
 -- What is read is what the tokens declare, and stands.
 pub record DeclaredIs (n : ℕ) (ts : Tokens) (x : r.Declared) : Type 0 where
