@@ -1,8 +1,10 @@
 -- From run to run.
-use Rattle.std.proofs.Common.{◌≡◌, ◌≤◌, ◌<◌, ◌+◌, ◌-◌, ◌*◌, ◌⊎◌, ℕ, suc, Bool, true, false, List, [], ◌∷◌, ◌++◌, length, map, reverse, Option, Some, None, inl, inr, refl, ap, sym, ◌∙◌, subst, arith}
+use Rattle.std.proofs.Common.{◌≡◌, ◌≤◌, ◌<◌, ◌+◌, ◌-◌, ◌*◌, ℕ, List, [], ◌∷◌, ◌++◌, length, map, reverse, Option, Some, None, refl, ap, sym, ◌∙◌, subst, arith}
 use Rattle.std.proofs.lemmas.List.{reverse-append, map-append, length-append, length-reverse, length-map}
 use Rattle.java_tree.specs.declared.tokens.Mark.TheVariants as m
-use Rattle.java_tree.specs.Seen.{Token, Tokens}
+use Rattle.java_tree.specs.declared.tokens.JToken.{JToken}
+use Rattle.java_tree.specs.Seen.{Token, Tokens, seen}
+use Rattle.java_reading.proofs.Seen.{length_seen}
 use Rattle.java_reading.specs.Reading.{◌>>=◌, maybe}
 use Rattle.java_reading.proofs.Tools.{bind_some, some_same}
 use Rattle.java_pieces.specs.declared.piece.Piece.{Piece}
@@ -14,7 +16,7 @@ use Rattle.java_units.specs.Standing.{Owner, owner_of}
 use Rattle.java_units.specs.Reading.{close_curly}
 use Rattle.java_runs.specs.Runs.{Run, run}
 use Rattle.java_runs.specs.Walk as w
-use Rattle.java_forms.specs.Forms.{form_at, run_read, member_read, read_at, form_read}
+use Rattle.java_forms.specs.Forms.{form_at, run_read, read_at, form_read}
 use Rattle.java_forms.proofs.Runs.{run_parts}
 use Rattle.java_forms.proofs.Sound.{form_sound}
 use Rattle.java_forms.proofs.Again.{unread, own_full, head_full, empty_full}
@@ -340,3 +342,12 @@ pub ended : (ps rest : List Piece) (s : w.State) → Led (shown ps) s (shown res
 ended ps rest s l none = let l1 = length_shown rest in walked (shown ps) (shown rest) s l (omega (arith, l1, none))
 
 pub ruleset walks = (led_start, length_shown)
+
+-- ---- the tokens of a file as pieces
+
+pub pieces_long : (ps : List Piece) (ts : List JToken) → shown ps ≡ seen ts → length ps ≡ length ts
+pieces_long ps ts e =
+    let l1 = ap length e in
+    omega (arith, l1, length_shown ps, length_seen ts)
+
+pub ruleset files = (pieces_long)

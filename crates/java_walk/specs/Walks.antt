@@ -1,20 +1,24 @@
 -- What forms do where they stand, and what a walk from run to run finds.
-use Rattle.std.specs.Prelude.{◌≡◌, ◌<◌, ◌+◌, ◌^◌, ℕ, Bool, true, false, List, [], ◌∷◌, length, map, reverse, Option, Some, None, Result}
+use Rattle.std.specs.Prelude.{◌≡◌, ◌<◌, ◌^◌, ℕ, Bool, true, false, if◌then◌else◌, List, [], ◌∷◌, length, map, reverse, Option, Some, None, is_some, Result, IfOk}
 use Rattle.std.specs.Borrow.{Bor}
 use Rattle.std.specs.declared.alloc.Global.{Global}
 use Rattle.j2k_base.specs.declared.errors.NoMemory.{NoMemory}
 use Rattle.java_tree.specs.declared.tokens.Mark.TheVariants as m
 use Rattle.java_tree.specs.Seen.{Token, Tokens}
-use Rattle.java_reading.specs.Reading.{◌>>=◌}
+use Rattle.java_reading.specs.Reading.{◌>>=◌, whole, open_curly}
 use Rattle.java_pieces.specs.declared.piece.Piece.{Piece}
 use Rattle.java_pieces.specs.Shown.{shown}
-use Rattle.java_parts.specs.Gives.{Gives, Always}
+use Rattle.java_members.specs.declared.homes.JHome.{JHome}
+use Rattle.java_members.specs.Modifiers.{type_fits}
 use Rattle.java_members.specs.declared.heads.JTypeHead.{JTypeHead}
 use Rattle.java_members.specs.declared.heads.JTypeHead.TheVariants as kind
-use Rattle.java_units.specs.Standing.{Owner}
-use Rattle.java_runs.specs.Runs.{run}
+use Rattle.java_units.specs.Standing.{Owner, steps}
+use Rattle.java_units.specs.Reading.{readers, constants_list}
 use Rattle.java_runs.specs.Walk as w
-use Rattle.java_forms.specs.Forms.{form_at, form_read}
+use Rattle.java_fits.specs.Fits.{owner_seen}
+use Rattle.java_forms.specs.Forms.{form_at, form_read, declared_form, bodied_form, constants_by}
+use Rattle.java_walk.specs.declared.forms.Ask.{Ask}
+use Rattle.java_walk.specs.declared.forms.Ask.TheVariants as a
 use Rattle.java_walk.specs.declared.states.Spot.{Spot}
 use Rattle.java_walk.specs.declared.states.Spot.TheVariants as s
 use Rattle.java_walk.specs.declared.states.Opened.{Opened}
@@ -83,9 +87,20 @@ after s p.Ends = record { spot = level (behind s.around); around = behind s.arou
 
 -- ---- reading
 
+abbrev pub does : Option w.Form → Option Passed
+does o = o >>= λ x. Some (passed_of x)
+
+-- whether a `{` is all
+abbrev pub lone_curly : Tokens → Bool
+lone_curly ts = is_some (whole (open_curly ts))
+
+-- what the head of a type does where it stands
+abbrev pub fitting : JHome → JTypeHead → Option Passed
+fitting place x = if type_fits place x then Some (p.Opens (opened_of x) (is_enum x)) else None
+
 -- what the form does that the tokens of a run spell
 unfoldable pub passed_at : w.State → Tokens → Option Passed
-passed_at s text = form_at s.spot s.around text >>= λ x. Some (passed_of x)
+passed_at s text = does (form_at s.spot s.around text)
 
 -- what the form does that begins the tokens, and what follows it
 unfoldable pub pass_read : w.State → Tokens → Option (Passed × Tokens)
@@ -118,11 +133,16 @@ abbrev pub room : w.Spot → ℕ
 room w.Spot.Constants = 1
 room _ = 0
 
--- A function value reads what runs do.
-pub record Forms (pre : Global → Bor State → Bor (List Piece) → Type 0) (post : Global → Bor State → Bor (List Piece) → Result (Option Passed) NoMemory → Type 0) : Type 0 where
-  pub callable : (alloc : Global) (s : Bor State) (ts : Bor (List Piece)) → length ts.now + room (state_seen s.now).spot < 2 ^ 32 → pre alloc s ts
-  pub reads : (alloc : Global) (s : Bor State) (ts : Bor (List Piece)) (x : Result (Option Passed) NoMemory) → post alloc s ts x
-      → Gives same Always (passed_at (state_seen s.now) (shown ts.now)) x
+-- whether tokens spell what is asked
+abbrev pub spells : Ask → Tokens → Bool
+spells (a.Declared x) text = is_some (declared_form (owner_seen x) text)
+spells (a.Bodied x) text = is_some (bodied_form (owner_seen x) text)
+spells a.Constants text = is_some (constants_list (readers steps) text >>= λ x. constants_by x)
+
+-- A function value tells what tokens spell.
+pub record Spells (pre : Global → Ask → Bor (List Piece) → Type 0) (post : Global → Ask → Bor (List Piece) → Result Bool NoMemory → Type 0) : Type 0 where
+  pub callable : (alloc : Global) (ask : Ask) (ts : Bor (List Piece)) → length ts.now < 2 ^ 32 → pre alloc ask ts
+  pub tells : (alloc : Global) (ask : Ask) (ts : Bor (List Piece)) (x : Result Bool NoMemory) → post alloc ask ts x → IfOk x (λ b. b ≡ spells ask (shown ts.now))
 
 -- ---- what a walk finds
 

@@ -2,24 +2,19 @@
 
 ghost use Rattle.std.specs.Prelude.{◌≡◌, ◌<◌, ◌+◌, ◌^◌, length, IfOk};
 ghost use Rattle.java_pieces.specs.Shown.{shown};
+ghost use Rattle.java_tree.specs.Seen.{seen};
 ghost use Rattle.java_parts.specs.Gives.{Gives, Always};
-ghost use Rattle.java_walk.specs.Walks.{Forms, Walked, HasRest, closed, end_read, pass_read, passed_found, room, state_seen};
+ghost use Rattle.java_walk.specs.Walks.{Spells, Walked, HasRest, closed, end_read, pass_read, passed_found, room, state_seen};
 
+use crate::forms::{Ask, Walk};
 use crate::states::{Passed, Spot, State};
 use j2k_base::NoMemory;
+use java_cuts::raw;
 use java_parts::onward;
 use java_pieces::{Head, Pieces, first};
 use java_run_ends::first_run;
-use java_tree::Mark;
+use java_tree::{JToken, Mark};
 use std::alloc::Global;
-
-/// The reader of what a run spells.
-#[derive(Clone, Copy)]
-pub struct Walk<F> {
-    pub alloc: Global,
-    /// Reads the form that a run spells where it stands.
-    pub form: F,
-}
 
 /// What follows a `}` that comes first.
 fn closed<'a>(pieces: Pieces<'a>) -> Option<Pieces<'a>>
@@ -42,7 +37,7 @@ fn ended<'a>(state: &State, pieces: Pieces<'a>) -> Option<Pieces<'a>>
     }
 }
 
-impl<F: Fn(Global, &State, Pieces<'_>) -> Result<Option<Passed>, NoMemory>> Walk<F> {
+impl<F: Fn(Global, Ask<'_>, Pieces<'_>) -> Result<bool, NoMemory>> Walk<F> {
     /// What the run that begins the pieces does, and the pieces behind it.
     #[tactic(auto, using(crate::proofs::Passing::reads))]
     fn read<'a>(
@@ -50,7 +45,7 @@ impl<F: Fn(Global, &State, Pieces<'_>) -> Result<Option<Passed>, NoMemory>> Walk
         state: &State,
         pieces: Pieces<'a>,
     ) -> Result<Option<(Passed, Pieces<'a>)>, NoMemory>
-        requires forms { Forms (F.pre self.now.form) (F.post self.now.form) }
+        requires spells { Spells (F.pre self.now.spells) (F.post self.now.spells) }
         requires size { length pieces.now + room (state_seen state.now).spot < 2 ^ 32 }
         ensures { Gives passed_found Always (pass_read (state_seen state.now) (shown pieces.now)) result }
     {
@@ -58,7 +53,7 @@ impl<F: Fn(Global, &State, Pieces<'_>) -> Result<Option<Passed>, NoMemory>> Walk
             return Ok(Some((Passed::Ends, rest)));
         }
         let run = first_run(pieces);
-        let Some(passed) = (self.form)(self.alloc, state, run.text)? else {
+        let Some(passed) = self.form(state, run.text)? else {
             return Ok(None);
         };
         Ok(Some((passed, run.rest)))
@@ -67,8 +62,8 @@ impl<F: Fn(Global, &State, Pieces<'_>) -> Result<Option<Passed>, NoMemory>> Walk
     /// The number of the token that begins the first run which no form of its place spells; None where each run is
     /// spelled.
     #[tactic(auto, using(crate::proofs::Passing::walks))]
-    pub fn first_unspelled<'a>(&self, pieces: Pieces<'a>) -> Result<Option<usize>, NoMemory>
-        requires forms { Forms (F.pre self.now.form) (F.post self.now.form) }
+    fn first_unspelled<'a>(&self, pieces: Pieces<'a>) -> Result<Option<usize>, NoMemory>
+        requires spells { Spells (F.pre self.now.spells) (F.post self.now.spells) }
         requires size { length pieces.now < 2 ^ 32 }
         ensures { IfOk result (λ r. Walked (shown pieces.now) r) }
     {
@@ -82,5 +77,17 @@ impl<F: Fn(Global, &State, Pieces<'_>) -> Result<Option<Passed>, NoMemory>> Walk
             rest = onward(behind);
         }
         Ok(None)
+    }
+
+    /// The number of the token of a file that begins the first run which no form of its place spells; None where each
+    /// run is spelled.
+    #[tactic(auto, using(crate::proofs::Passing::files))]
+    pub fn first_fault(&self, tokens: &[JToken]) -> Result<Option<usize>, NoMemory>
+        requires spells { Spells (F.pre self.now.spells) (F.post self.now.spells) }
+        requires size { length tokens.now < 2 ^ 32 }
+        ensures { IfOk result (λ r. Walked (seen tokens.now) r) }
+    {
+        let pieces = raw(self.alloc, tokens)?;
+        self.first_unspelled(pieces.as_slice())
     }
 }

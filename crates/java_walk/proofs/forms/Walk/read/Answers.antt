@@ -1,8 +1,8 @@
-use Rattle.std.proofs.Common.{◌≡◌, ◌≤◌, length, arith}
+use Rattle.std.proofs.Common.{arith}
 use Rattle.java_pieces.specs.Shown.{shown}
 use Rattle.java_parts.proofs.Rules.{length_shown}
 use Rattle.java_walk.proofs.Passing.{ends_read, run_within}
-use Rattle.java_walk.proofs.walk.Walk.read.Goals as goal
+use Rattle.java_walk.proofs.forms.Walk.read.Goals as goal
 
 pub returns-in-Some : goal.returns-in-Some
 returns-in-Some g c = (ends_read _ _ _ c.in-Some.ensures, tt)
@@ -13,4 +13,4 @@ form-requires g c =
     let l1 = length_shown c.first_run-run.result.text.now in
     let l2 = length_shown c.args.pieces.now in
     let q = c.requires.size in
-    c.requires.forms.callable _ _ _ (omega (arith, w, l1, l2, q))
+    record { spells = c.requires.spells; size = omega (arith, w, l1, l2, q) }

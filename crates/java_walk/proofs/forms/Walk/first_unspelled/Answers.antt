@@ -1,8 +1,8 @@
-use Rattle.std.proofs.Common.{◌≡◌, ◌≤◌, length, arith}
+use Rattle.std.proofs.Common.{arith}
 use Rattle.std.proofs.lemmas.Bool.Decides.{nat_tests}
 use Rattle.java_walk.specs.Walks.{state_seen}
 use Rattle.java_walk.proofs.Passing.{turned, faulty, ended}
-use Rattle.java_walk.proofs.walk.Walk.first_unspelled.Goals as goal
+use Rattle.java_walk.proofs.forms.Walk.first_unspelled.Goals as goal
 
 pub returns-in_default : goal.returns-in_default
 returns-in_default g c =

@@ -1,8 +1,8 @@
-use Rattle.std.proofs.Common.{◌≡◌, ◌≤◌, ◌+◌, ◌*◌, length}
+use Rattle.std.proofs.Common.{◌≤◌, ◌+◌, ◌*◌, length}
 use Rattle.java_pieces.specs.Shown.{shown}
 use Rattle.java_walk.specs.Walks.{room, state_seen}
 use Rattle.java_walk.proofs.Passing.{Led}
-use Rattle.java_walk.proofs.walk.Walk.first_unspelled.Given as goal
+use Rattle.java_walk.proofs.forms.Walk.first_unspelled.Given as goal
 
 abbrev pub invariant-loop-rest : goal.invariant-loop-rest
 invariant-loop-rest g l = record {
