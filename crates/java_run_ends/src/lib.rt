@@ -7,3 +7,6 @@ mod places;
 
 pub use ends::{Run, first_run};
 pub use places::End;
+
+#[cfg(test)]
+mod tests;
