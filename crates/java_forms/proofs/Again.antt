@@ -65,6 +65,19 @@ empty_layer read h (JMember-F.Type x left cs bodies xs right) s = absurd s
 empty_again : (read : Tokens → Option Form) → Takes_semicolon read → (x : JMember) → is_empty (out-JMember x) → read (whole_member_tokens x) ≡ Some (Form.Member x)
 empty_again read h x s = subst (λ (z : JMember). read (whole_member_tokens z) ≡ Some (Form.Member z)) (roll-out-JMember x) (empty_layer read h (out-JMember x) s)
 
+empty_size : (layer : Layer) → is_empty layer → 1 ≤ length (whole_member_tokens (roll-JMember layer))
+empty_size (JMember-F.Declared head.Empty xs at) s =
+    let e = ap length (ap whole_member_tokens (member.rolls-Declared head.Empty xs at) ∙ tokens_Declared head.Empty xs at) in omega (arith, e)
+empty_size (JMember-F.Declared (head.Field mods x) xs at) s = absurd s
+empty_size (JMember-F.Declared (head.Method mods params result name nat formals throws) xs at) s = absurd s
+empty_size (JMember-F.Declared (head.Constructor mods name nat formals throws) xs at) s = absurd s
+empty_size (JMember-F.Declared (head.Initializer static) xs at) s = absurd s
+empty_size (JMember-F.Bodied x left xs right) s = absurd s
+empty_size (JMember-F.Type x left cs bodies xs right) s = absurd s
+
+pub empty_full : (x : JMember) → is_empty (out-JMember x) → 1 ≤ length (whole_member_tokens x)
+empty_full x s = subst (λ (z : JMember). 1 ≤ length (whole_member_tokens z)) (roll-out-JMember x) (empty_size (out-JMember x) s)
+
 outside_again : (other : Tokens → Option Form) → Takes_semicolon (f.outside_form other) → (form : Form) → takes_outside form → f.outside_form other (form_tokens form) ≡ Some form
 outside_again other h (Form.Head x left) s = typed_again other x left s
 outside_again other h (Form.Member x) s = empty_again (f.outside_form other) h x s
