@@ -1,5 +1,5 @@
 -- A stack of work, and of what was written.
-use Rattle.std.proofs.Common.{◌≡◌, ◌<◌, ◌≤◌, ℕ, suc, ◌+◌, get_or, drop-cons, List, [], ◌∷◌, ◌++◌, length, take, drop, reverse, ap, sym, refl, ◌∙◌, append_assoc, arith}
+use Rattle.std.proofs.Common.{◌≡◌, ◌<◌, ◌≤◌, ℕ, suc, ◌+◌, get_or, drop-cons, List, [], ◌∷◌, ◌++◌, length, map, take, drop, reverse, ap, sym, refl, ◌∙◌, append_assoc, arith}
 use Rattle.std.proofs.Math.Seq.{drop-nil, take-nil}
 use Rattle.std.proofs.lemmas.List.{append-nil, drop_all, reverse-append, reverse-reverse}
 use Rattle.java_tree.specs.declared.tokens.Position.{Position}
@@ -12,13 +12,14 @@ use Rattle.java_writing.specs.declared.written.Written.{Written}
 use Rattle.java_writing.specs.Shown.{shown, written_shown}
 use Rattle.java_writing.proofs.Expanded.{written_texts, kind_plain, expanded_none, expanded_more, expanded_joins}
 use Rattle.java_reading.proofs.Seen.{seen_more, seen_none}
+use Rattle.java_units.specs.declared.statements.JBody.{JBody}
 use Rattle.java_units.specs.declared.statements.JStatement.{JStatement}
-use Rattle.java_units.specs.Tokens.{filled}
+use Rattle.java_units.specs.Tokens.{filled, body_tokens}
 use Rattle.java_unit_writing.specs.declared.work.Work.{Work}
 use Rattle.java_unit_writing.specs.Work.{laid, todo, work_tokens, weight, work_weight}
 use Rattle.java_unit_writing.specs.Weights.{total}
-use Rattle.java_unit_writing.proofs.UnitTexts.{unit_texts}
-use Rattle.java_unit_writing.proofs.Weighted.{weights}
+use Rattle.java_unit_writing.proofs.UnitTexts.{unit_texts, record_texts}
+use Rattle.java_unit_writing.proofs.Weighted.{weights, record_weights}
 
 pub laid_none : laid [] ≡ []
 unfolding laid shown
@@ -58,6 +59,10 @@ filled_none (Token.Id n at ∷ ts) = ap (λ z. Token.Id n at ∷ z) (filled_none
 filled_none (Token.Literal x at ∷ ts) = ap (λ z. Token.Literal x at ∷ z) (filled_none ts)
 filled_none (Token.ArrowBody at span ∷ ts) = ap (λ z. Token.ArrowBody at span ∷ z) (filled_none ts)
 filled_none (Token.CloseBody at span ∷ ts) = ap (λ z. Token.CloseBody at span ∷ z) (filled_none ts)
+
+pub filled_end : (t : Token) (ts : Tokens) (bodies : List JBody) → length bodies < 1 → filled (t ∷ ts) (map body_tokens bodies) ≡ t ∷ filled ts (map body_tokens bodies)
+filled_end t ts [] few = filled_none (t ∷ ts) ∙ ap (λ z. t ∷ z) (sym (filled_none ts))
+filled_end t ts (b ∷ bs) few = absurd (omega (arith, few))
 
 -- ---- a token of a file has no body
 
@@ -145,6 +150,10 @@ statements_end xs from beyond = drop_all from xs beyond
 pub ruleset places = (append_assoc, append-nil, todo_more, weight_more, statements_from, statements_end)
 
 pub ruleset stacks = (append_assoc, append-nil, laid_none, laid_more, laid_reverse, todo_none, todo_more, weight_none, weight_more, filled_none, kind_filled, total_some, nothing_left, written_texts)
+
+pub ruleset firsts = (append_assoc, kind_filled, filled_end)
+
+pub ruleset records = (stacks, record_texts, record_weights)
 
 pub ruleset opened = (stacks, unit_texts, weights)
 

@@ -13,9 +13,9 @@ use Rattle.java_members.specs.declared.lines.JConstants.{JConstants}
 use Rattle.java_members.specs.Heads.{member_tokens, type_head_tokens}
 use Rattle.java_units.specs.declared.statements.JBody.{JBody, roll-JBody, fold-roll-JBody}
 use Rattle.java_units.specs.declared.statements.JBody.TheVariants as body
-use Rattle.java_units.specs.declared.statements.JCase.{JCase, roll-JCase, fold-roll-JCase}
-use Rattle.java_units.specs.declared.statements.JCaseGroup.{JCaseGroup, roll-JCaseGroup, fold-roll-JCaseGroup}
-use Rattle.java_units.specs.declared.statements.JCatch.{JCatch, roll-JCatch, fold-roll-JCatch}
+use Rattle.java_units.specs.declared.statements.JCase.{JCase, roll-JCase, out-JCase, roll-out-JCase, fold-roll-JCase}
+use Rattle.java_units.specs.declared.statements.JCaseGroup.{JCaseGroup, roll-JCaseGroup, out-JCaseGroup, roll-out-JCaseGroup, fold-roll-JCaseGroup}
+use Rattle.java_units.specs.declared.statements.JCatch.{JCatch, roll-JCatch, out-JCatch, roll-out-JCatch, fold-roll-JCatch}
 use Rattle.java_units.specs.declared.statements.JMember.{JMember, roll-JMember, fold-roll-JMember}
 use Rattle.java_units.specs.declared.statements.JMember.TheVariants as member
 use Rattle.java_units.specs.declared.statements.JStatement.{JStatement, roll-JStatement, fold-roll-JStatement}
@@ -55,4 +55,16 @@ pub tokens_Catch : (x : JCatch-F JBody JMember JStatement JCase JCaseGroup JCatc
 unfolding body_tokens statement_tokens whole_member_tokens case_tokens group_tokens catch_tokens
 tokens_Catch x = fold-roll-JCatch Tokens Tokens Tokens Tokens Tokens Tokens body_by member_by statement_by case_by group_by catch_by x
 
-pub ruleset unit_texts = (tokens_Simple, tokens_Block, tokens_Labeled, tokens_If, tokens_IfElse, tokens_While, tokens_Do, tokens_For, tokens_Synchronized, tokens_Declared, tokens_Bodied, tokens_Type, tokens_Statements, tokens_Members, tokens_Switch, tokens_Try, tokens_TryFinally, tokens_Case, tokens_CaseGroup, tokens_Catch)
+pub tokens_case : (x : JCase) → case_tokens x ≡ filled (switch_tokens (out-JCase x).label) (map body_tokens (out-JCase x).bodies)
+tokens_case x = ap case_tokens (sym (roll-out-JCase x)) ∙ tokens_Case (out-JCase x)
+
+pub tokens_group : (x : JCaseGroup) → group_tokens x ≡ joined (map case_tokens (out-JCaseGroup x).labels) ++ joined (map statement_tokens (out-JCaseGroup x).statements)
+tokens_group x = ap group_tokens (sym (roll-out-JCaseGroup x)) ∙ tokens_CaseGroup (out-JCaseGroup x)
+
+pub tokens_catch : (x : JCatch)
+    → catch_tokens x ≡ Token.Word w.Catch (out-JCatch x).at ∷ Token.Sign m.OpenRound (out-JCatch x).opens ∷ (typed_tokens (out-JCatch x).caught ++ Token.Sign m.CloseRound (out-JCatch x).closes ∷ braced (out-JCatch x).left (map statement_tokens (out-JCatch x).statements) (out-JCatch x).right)
+tokens_catch x = ap catch_tokens (sym (roll-out-JCatch x)) ∙ tokens_Catch (out-JCatch x)
+
+pub ruleset record_texts = (tokens_case, tokens_group, tokens_catch)
+
+pub ruleset unit_texts = (tokens_Simple, tokens_Block, tokens_Labeled, tokens_If, tokens_IfElse, tokens_While, tokens_Do, tokens_For, tokens_Synchronized, tokens_Declared, tokens_Bodied, tokens_Type, tokens_Statements, tokens_Members, tokens_Switch, tokens_Try, tokens_TryFinally)

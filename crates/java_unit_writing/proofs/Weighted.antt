@@ -13,9 +13,9 @@ use Rattle.java_members.specs.declared.lines.JConstants.{JConstants}
 use Rattle.java_members.specs.Heads.{member_tokens, type_head_tokens}
 use Rattle.java_units.specs.declared.statements.JBody.{JBody, roll-JBody, fold-roll-JBody}
 use Rattle.java_units.specs.declared.statements.JBody.TheVariants as body
-use Rattle.java_units.specs.declared.statements.JCase.{JCase, roll-JCase, fold-roll-JCase}
-use Rattle.java_units.specs.declared.statements.JCaseGroup.{JCaseGroup, roll-JCaseGroup, fold-roll-JCaseGroup}
-use Rattle.java_units.specs.declared.statements.JCatch.{JCatch, roll-JCatch, fold-roll-JCatch}
+use Rattle.java_units.specs.declared.statements.JCase.{JCase, roll-JCase, out-JCase, roll-out-JCase, fold-roll-JCase}
+use Rattle.java_units.specs.declared.statements.JCaseGroup.{JCaseGroup, roll-JCaseGroup, out-JCaseGroup, roll-out-JCaseGroup, fold-roll-JCaseGroup}
+use Rattle.java_units.specs.declared.statements.JCatch.{JCatch, roll-JCatch, out-JCatch, roll-out-JCatch, fold-roll-JCatch}
 use Rattle.java_units.specs.declared.statements.JMember.{JMember, roll-JMember, fold-roll-JMember}
 use Rattle.java_units.specs.declared.statements.JMember.TheVariants as member
 use Rattle.java_units.specs.declared.statements.JStatement.{JStatement, roll-JStatement, fold-roll-JStatement}
@@ -103,4 +103,15 @@ pub weight_Catch : (x : JCatch-F JBody JMember JStatement JCase JCaseGroup JCatc
 unfolding body_weight statement_weight member_weight case_weight group_weight catch_weight
 weight_Catch x = fold-roll-JCatch ℕ ℕ ℕ ℕ ℕ ℕ body_weight_by member_weight_by statement_weight_by case_weight_by group_weight_by catch_weight_by x
 
-pub ruleset weights = (weight_Simple, weight_Block, weight_Labeled, weight_If, weight_IfElse, weight_While, weight_Do, weight_For, weight_Switch, weight_Synchronized, weight_Try, weight_TryFinally, weight_Declared, weight_Bodied, weight_Type, weight_Statements, weight_Members, weight_Case, weight_CaseGroup, weight_Catch)
+pub weight_case : (x : JCase) → case_weight x ≡ text_weight (switch_tokens (out-JCase x).label) (map body_weight (out-JCase x).bodies)
+weight_case x = ap case_weight (sym (roll-out-JCase x)) ∙ weight_Case (out-JCase x)
+
+pub weight_group : (x : JCaseGroup) → group_weight x ≡ total (map case_weight (out-JCaseGroup x).labels) + total (map statement_weight (out-JCaseGroup x).statements)
+weight_group x = ap group_weight (sym (roll-out-JCaseGroup x)) ∙ weight_CaseGroup (out-JCaseGroup x)
+
+pub weight_catch : (x : JCatch) → catch_weight x ≡ 5 + (text_weight (typed_tokens (out-JCatch x).caught) [] + total (map statement_weight (out-JCatch x).statements))
+weight_catch x = ap catch_weight (sym (roll-out-JCatch x)) ∙ weight_Catch (out-JCatch x)
+
+pub ruleset record_weights = (weight_case, weight_group, weight_catch)
+
+pub ruleset weights = (weight_Simple, weight_Block, weight_Labeled, weight_If, weight_IfElse, weight_While, weight_Do, weight_For, weight_Switch, weight_Synchronized, weight_Try, weight_TryFinally, weight_Declared, weight_Bodied, weight_Type, weight_Statements, weight_Members)

@@ -1,6 +1,6 @@
 //! The first part of a list, and the rest of the list, put on the stack.
 
-ghost use Rattle.std.specs.Prelude.{◌≡◌, ◌<◌, ◌+◌, ◌++◌, [], ◌∷◌, IfOk, drop, map};
+ghost use Rattle.std.specs.Prelude.{◌≡◌, ◌<◌, ◌≤◌, ◌+◌, ◌++◌, [], ◌∷◌, IfOk, drop, map};
 ghost use Rattle.java_tree.specs.Seen.{Token};
 ghost use Rattle.java_tree.specs.declared.tokens.Mark.TheVariants as m;
 ghost use Rattle.java_writing.specs.Shown.{written_shown};
@@ -13,7 +13,7 @@ use crate::{
     push_text, switch_text, typed_text,
 };
 use j2k_base::NoMemory;
-use java_tree::{Keyword, Mark, Span};
+use java_tree::{Keyword, Mark, Position, Span};
 use java_units::{JBody, JCase, JCaseGroup, JCatch, JMember, JStatement};
 use java_writing::Written;
 use sqlite_items::Items;
@@ -55,8 +55,18 @@ pub fn open_members<'a>(
     open_member(alloc, stack, first)
 }
 
-/// Labels of a switch with the statements behind them (JLS 14.11).
-#[tactic(auto, using(crate::proofs::Stack::opened))]
+/// Labels that stand together, and the statements behind them (JLS 14.11).
+#[tactic(auto, using(crate::proofs::Stack::records))]
+fn open_group<'a>(stack: &mut Vec<Work<'a>>, x: &'a JCaseGroup) -> Result<(), NoMemory>
+    ensures text { IfOk result (λ u. todo stack.new.items ≡ group_tokens x.now ++ todo stack.old.items) }
+    ensures weight { IfOk result (λ u. weight stack.new.items ≤ group_weight x.now + weight stack.old.items) }
+{
+    push(stack, Work::Statements(&x.statements, 0))?;
+    push(stack, Work::Cases(x.labels.as_slice()))
+}
+
+/// The groups of a switch.
+#[tactic(auto, using(crate::proofs::Stack::stacks))]
 pub fn open_groups<'a>(stack: &mut Vec<Work<'a>>, xs: &'a [JCaseGroup]) -> Result<(), NoMemory>
     ensures text { IfOk result (λ u. todo stack.new.items ≡ joined (map group_tokens xs.now) ++ todo stack.old.items) }
     ensures weight { IfOk result (λ u. weight stack.new.items < total (map group_weight xs.now) + weight stack.old.items) }
@@ -65,12 +75,21 @@ pub fn open_groups<'a>(stack: &mut Vec<Work<'a>>, xs: &'a [JCaseGroup]) -> Resul
         return Ok(());
     };
     push(stack, Work::Groups(more))?;
-    push(stack, Work::Statements(&first.statements, 0))?;
-    push(stack, Work::Cases(first.labels.as_slice()))
+    open_group(stack, first)
+}
+
+/// A label of a switch, and the bodies of its expression.
+#[tactic(auto, using(crate::proofs::Stack::records))]
+fn open_case<'a>(alloc: Global, stack: &mut Vec<Work<'a>>, x: &'a JCase) -> Result<(), NoMemory>
+    ensures text { IfOk result (λ u. todo stack.new.items ≡ case_tokens x.now ++ todo stack.old.items) }
+    ensures weight { IfOk result (λ u. weight stack.new.items ≤ case_weight x.now + weight stack.old.items) }
+{
+    let text = switch_text(alloc, &x.label)?;
+    push_text(stack, text, x.bodies.as_slice())
 }
 
 /// Labels of a switch.
-#[tactic(auto, using(crate::proofs::Stack::opened))]
+#[tactic(auto, using(crate::proofs::Stack::stacks))]
 pub fn open_cases<'a>(
     alloc: Global,
     stack: &mut Vec<Work<'a>>,
@@ -82,13 +101,26 @@ pub fn open_cases<'a>(
     let [first, more @ ..] = xs else {
         return Ok(());
     };
-    let text = switch_text(alloc, &first.label)?;
     push(stack, Work::Cases(more))?;
-    push_text(stack, text, first.bodies.as_slice())
+    open_case(alloc, stack, first)
 }
 
-/// The catches of a `try` (JLS 14.20).
-#[tactic(auto, using(crate::proofs::Stack::opened))]
+/// A catch (JLS 14.20).
+#[tactic(auto, using(crate::proofs::Stack::records))]
+fn open_catch<'a>(alloc: Global, stack: &mut Vec<Work<'a>>, x: &'a JCatch) -> Result<(), NoMemory>
+    ensures text { IfOk result (λ u. todo stack.new.items ≡ catch_tokens x.now ++ todo stack.old.items) }
+    ensures weight { IfOk result (λ u. weight stack.new.items ≤ catch_weight x.now + weight stack.old.items) }
+{
+    let text = typed_text(alloc, &x.caught)?;
+    push_block(stack, x.left, &x.statements, x.right)?;
+    push_mark(stack, Mark::CloseRound, x.closes)?;
+    push_plain(stack, text)?;
+    push_mark(stack, Mark::OpenRound, x.opens)?;
+    push_keyword(stack, Keyword::Catch, x.at)
+}
+
+/// The catches of a `try`.
+#[tactic(auto, using(crate::proofs::Stack::stacks))]
 pub fn open_catches<'a>(
     alloc: Global,
     stack: &mut Vec<Work<'a>>,
@@ -100,13 +132,8 @@ pub fn open_catches<'a>(
     let [first, more @ ..] = xs else {
         return Ok(());
     };
-    let text = typed_text(alloc, &first.caught)?;
     push(stack, Work::Catches(more))?;
-    push_block(stack, first.left, &first.statements, first.right)?;
-    push_mark(stack, Mark::CloseRound, first.closes)?;
-    push_plain(stack, text)?;
-    push_mark(stack, Mark::OpenRound, first.opens)?;
-    push_keyword(stack, Keyword::Catch, first.at)
+    open_catch(alloc, stack, first)
 }
 
 #[tactic(auto, using(crate::proofs::Stack::opened))]
@@ -146,6 +173,54 @@ fn push_first<'a>(
     push(stack, Work::Token(token))
 }
 
+/// A mark with the body behind it, and the rest of its text.
+#[tactic(auto, using(crate::proofs::Stack::stacks))]
+fn push_filled<'a>(
+    stack: &mut Vec<Work<'a>>,
+    text: Vec<Written>,
+    more: &'a [JBody],
+    first: &'a JBody,
+    mark: Mark,
+    at: Position,
+    span: Span,
+) -> Result<(), NoMemory>
+    ensures text { IfOk result (λ u. todo stack.new.items ≡ Token.Sign mark at ∷ Token.Sign m.OpenCurly span.opens ∷ (body_tokens first.now ++ Token.Sign m.CloseCurly span.closes ∷ (filled (laid text.items) (map body_tokens more.now) ++ todo stack.old.items))) }
+    ensures weight { IfOk result (λ u. weight stack.new.items ≡ 2 + (body_weight first.now + (text_weight (laid text.items) (map body_weight more.now) + weight stack.old.items))) }
+{
+    push(stack, Work::Text(text, more))?;
+    push_body(stack, first, span)?;
+    push_mark(stack, mark, at)
+}
+
+/// A token with the first of the bodies where it has one, and the rest of its text.
+#[tactic(auto, using(crate::proofs::Stack::firsts))]
+fn open_token<'a>(
+    stack: &mut Vec<Work<'a>>,
+    text: Vec<Written>,
+    bodies: &'a [JBody],
+    token: Written,
+) -> Result<(), NoMemory>
+    ensures text { IfOk result (λ u. todo stack.new.items ≡ filled (written_shown token ∷ laid text.items) (map body_tokens bodies.now) ++ todo stack.old.items) }
+    ensures weight { IfOk result (λ u. weight stack.new.items < text_weight (written_shown token ∷ laid text.items) (map body_weight bodies.now) + weight stack.old.items) }
+{
+    let [first, more @ ..] = bodies else {
+        return push_first(stack, text, bodies, token);
+    };
+    match token {
+        Written::Token(token) => push_first(stack, text, bodies, Written::Token(token)),
+        Written::Block(at, span) => push_filled(stack, text, more, first, Mark::Arrow, at, span),
+        Written::Body(at, span) => push_filled(
+            stack,
+            text,
+            more,
+            first,
+            Mark::CloseRound,
+            at,
+            span,
+        ),
+    }
+}
+
 /// The tokens of a head, with its bodies.
 #[tactic(auto, using(crate::proofs::Stack::stacks))]
 pub fn open_text<'a>(
@@ -160,20 +235,5 @@ pub fn open_text<'a>(
     let Some(token) = text.pop() else {
         return Ok(());
     };
-    let [first, more @ ..] = bodies else {
-        return push_first(stack, text, bodies, token);
-    };
-    match token {
-        Written::Token(token) => push_first(stack, text, bodies, Written::Token(token)),
-        Written::Block(at, span) => {
-            push(stack, Work::Text(text, more))?;
-            push_body(stack, first, span)?;
-            push_mark(stack, Mark::Arrow, at)
-        }
-        Written::Body(at, span) => {
-            push(stack, Work::Text(text, more))?;
-            push_body(stack, first, span)?;
-            push_mark(stack, Mark::CloseRound, at)
-        }
-    }
+    open_token(stack, text, bodies, token)
 }
