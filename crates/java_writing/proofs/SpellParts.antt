@@ -6,10 +6,10 @@ use Rattle.java_reading.proofs.ExprParts.{parts as depths}
 use Rattle.java_reading.proofs.Parts.{parts as type_depths}
 use Rattle.java_reading.proofs.TypeTexts.{types}
 use Rattle.java_reading.proofs.ExprTexts.{texts}
-use Rattle.java_writing.proofs.Expanded.{expansions}
+use Rattle.java_writing.proofs.Expanded.{expansions, written_texts}
 
 -- what was there, and then a token
 pub mark_joins : {A : Type 0} (a : List A) (x : A) (b : List A) → (a ++ x ∷ []) ++ b ≡ a ++ x ∷ b
 mark_joins a x b = append_assoc a (x ∷ []) b
 
-pub ruleset joins = (append_assoc, append-nil, depths, type_depths, types, texts, seen_more, seen_none, expansions)
+pub ruleset joins = (append_assoc, append-nil, depths, type_depths, types, texts, seen_more, seen_none, written_texts, expansions)

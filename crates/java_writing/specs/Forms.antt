@@ -1,12 +1,6 @@
--- The tokens of a tree with those of its bodies, and which form it has.
+-- Which form a tree has.
 use Rattle.java_tree.specs.declared.exprs.JExpr.{JExpr, out-JExpr}
 use Rattle.java_tree.specs.declared.exprs.JExpr.TheOpen.{JExpr-F}
-use Rattle.java_tree.specs.Seen.{Tokens, expanded}
-use Rattle.java_tree.specs.Trees.{tokens}
-
--- in the file that the bodies count in
-abbrev pub spelled : Tokens → JExpr → Tokens
-spelled file e = expanded file (tokens e)
 
 pub data Form : Type 0 where
   Plain : Form

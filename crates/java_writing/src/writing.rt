@@ -1,13 +1,15 @@
-//! The tokens of a tree.
+//! What the tokens of a tree are, with its bodies as spans.
 
-ghost use Rattle.std.specs.Prelude.{◌≡◌, ◌-◌, ◌++◌, [], ◌∷◌, IfOk, Bool, true, drop, map, take};
+ghost use Rattle.std.specs.Prelude.{◌≡◌, ◌++◌, [], ◌∷◌, IfOk, Bool, true, map};
 ghost use Rattle.java_tree.specs.Trees as s;
-ghost use Rattle.java_tree.specs.Seen.{Token, body_tokens, expanded, kind_seen, seen, word_seen};
-ghost use Rattle.java_writing.specs.Forms.{Form, form, spelled};
+ghost use Rattle.java_tree.specs.Seen.{Token, kind_seen, word_seen};
+ghost use Rattle.java_writing.specs.Shown.{shown, written_shown};
+ghost use Rattle.java_writing.specs.Forms.{Form, form};
 ghost use Rattle.java_tree.specs.declared.tokens.Mark.TheVariants as m;
 ghost use Rattle.java_tree.specs.declared.tokens.Keyword.TheVariants as w;
 ghost use Rattle.java_tree.specs.declared.tokens.Position.{Position};
 
+use crate::{Written, copied};
 use j2k_base::{Name, NoMemory, Units};
 use java_tree::{
     AssignOp, BinaryOp, JBrackets, JCreated, JDotted, JExpr, JLiteral, JParam, JParams, JQualified,
@@ -17,35 +19,37 @@ use java_tree::{
 use sqlite_items::Items;
 use std::alloc::Global;
 
-fn copied(alloc: Global, name: &Name) -> Result<Name, NoMemory>
-    ensures { IfOk result (λ n. n ≡ name.now) }
-{
-    Name::from_str(alloc, name.as_str())
-}
-
 #[tactic(auto, using(crate::proofs::SpellParts::joins))]
-fn put_token(out: &mut Vec<JToken>, kind: TokenKind, at: Position) -> Result<(), NoMemory>
-    ensures { IfOk result (λ u. seen out.new.items ≡ seen out.old.items ++ kind_seen kind at ∷ []) }
+fn put_token(out: &mut Vec<Written>, kind: TokenKind, at: Position) -> Result<(), NoMemory>
+    ensures { IfOk result (λ u. shown out.new.items ≡ shown out.old.items ++ kind_seen kind at ∷ []) }
 {
-    out.push(JToken { kind, position: at })?;
+    out.push(Written::Token(JToken { kind, position: at }))?;
     Ok(())
 }
 
+/// A mark.
 #[tactic(auto, using(crate::proofs::SpellParts::joins))]
-fn put(out: &mut Vec<JToken>, mark: Mark, at: Position) -> Result<(), NoMemory>
-    ensures { IfOk result (λ u. seen out.new.items ≡ seen out.old.items ++ Token.Sign mark at ∷ []) }
+pub fn put(out: &mut Vec<Written>, mark: Mark, at: Position) -> Result<(), NoMemory>
+    ensures { IfOk result (λ u. shown out.new.items ≡ shown out.old.items ++ Token.Sign mark at ∷ []) }
 {
     put_token(out, TokenKind::Mark(mark), at)
 }
 
-fn put_keyword(out: &mut Vec<JToken>, word: Keyword, at: Position) -> Result<(), NoMemory>
-    ensures { IfOk result (λ u. seen out.new.items ≡ seen out.old.items ++ word_seen word at ∷ []) }
+/// A keyword, or `true`, `false` or `null`.
+pub fn put_keyword(out: &mut Vec<Written>, word: Keyword, at: Position) -> Result<(), NoMemory>
+    ensures { IfOk result (λ u. shown out.new.items ≡ shown out.old.items ++ word_seen word at ∷ []) }
 {
     put_token(out, TokenKind::Keyword(word), at)
 }
 
-fn put_word(alloc: Global, out: &mut Vec<JToken>, name: &Name, at: Position) -> Result<(), NoMemory>
-    ensures { IfOk result (λ u. seen out.new.items ≡ seen out.old.items ++ Token.Id name.now at ∷ []) }
+/// A name.
+pub fn put_word(
+    alloc: Global,
+    out: &mut Vec<Written>,
+    name: &Name,
+    at: Position,
+) -> Result<(), NoMemory>
+    ensures { IfOk result (λ u. shown out.new.items ≡ shown out.old.items ++ Token.Id name.now at ∷ []) }
 {
     put_token(out, TokenKind::Name(copied(alloc, name)?), at)
 }
@@ -72,11 +76,11 @@ fn literal_kind(alloc: Global, literal: &JLiteral) -> Result<TokenKind, NoMemory
 
 fn put_literal(
     alloc: Global,
-    out: &mut Vec<JToken>,
+    out: &mut Vec<Written>,
     literal: &JLiteral,
     at: Position,
 ) -> Result<(), NoMemory>
-    ensures { IfOk result (λ u. seen out.new.items ≡ seen out.old.items ++ Token.Literal literal.now at ∷ []) }
+    ensures { IfOk result (λ u. shown out.new.items ≡ shown out.old.items ++ Token.Literal literal.now at ∷ []) }
 {
     put_token(out, literal_kind(alloc, literal)?, at)
 }
@@ -116,7 +120,8 @@ fn primitive_word(kind: Primitive) -> Keyword
     }
 }
 
-fn closing(is_joined: bool) -> Mark
+/// The `>` behind types, and whether another `>` or a `=` stands directly behind it.
+pub fn closing(is_joined: bool) -> Mark
     ensures { result ≡ s.closing is_joined }
 {
     if is_joined {
@@ -127,8 +132,8 @@ fn closing(is_joined: bool) -> Mark
 }
 
 #[tactic(auto, using(crate::proofs::SpellParts::joins))]
-fn put_operator(out: &mut Vec<JToken>, op: BinaryOp, at: Position) -> Result<(), NoMemory>
-    ensures { IfOk result (λ u. seen out.new.items ≡ seen out.old.items ++ s.operator_tokens op at) }
+fn put_operator(out: &mut Vec<Written>, op: BinaryOp, at: Position) -> Result<(), NoMemory>
+    ensures { IfOk result (λ u. shown out.new.items ≡ shown out.old.items ++ s.operator_tokens op at) }
 {
     let mark = match op {
         BinaryOp::GreaterEqual(second) => return put_two(out, at, Mark::Assign, second),
@@ -160,20 +165,20 @@ fn put_operator(out: &mut Vec<JToken>, op: BinaryOp, at: Position) -> Result<(),
 /// A `>` that is joined to the mark behind it.
 #[tactic(auto, using(crate::proofs::SpellParts::joins))]
 fn put_two(
-    out: &mut Vec<JToken>,
+    out: &mut Vec<Written>,
     at: Position,
     last: Mark,
     second: Position,
 ) -> Result<(), NoMemory>
-    ensures { IfOk result (λ u. seen out.new.items ≡ seen out.old.items ++ Token.Sign m.GreaterJoined at ∷ Token.Sign last second ∷ []) }
+    ensures { IfOk result (λ u. shown out.new.items ≡ shown out.old.items ++ Token.Sign m.GreaterJoined at ∷ Token.Sign last second ∷ []) }
 {
     put(out, Mark::GreaterJoined, at)?;
     put(out, last, second)
 }
 
 #[tactic(auto, using(crate::proofs::SpellParts::joins))]
-fn put_assign(out: &mut Vec<JToken>, op: AssignOp, at: Position) -> Result<(), NoMemory>
-    ensures { IfOk result (λ u. seen out.new.items ≡ seen out.old.items ++ s.assign_tokens op at) }
+fn put_assign(out: &mut Vec<Written>, op: AssignOp, at: Position) -> Result<(), NoMemory>
+    ensures { IfOk result (λ u. shown out.new.items ≡ shown out.old.items ++ s.assign_tokens op at) }
 {
     let mark = match op {
         AssignOp::ShiftRight(second, third) => {
@@ -201,11 +206,11 @@ fn put_assign(out: &mut Vec<JToken>, op: AssignOp, at: Position) -> Result<(), N
 #[tactic(auto, using(crate::proofs::SpellParts::joins))]
 fn other_params(
     alloc: Global,
-    out: &mut Vec<JToken>,
+    out: &mut Vec<Written>,
     items: &[JParam],
     commas: &[Position],
 ) -> Result<(), NoMemory>
-    ensures { IfOk result (λ u. seen out.new.items ≡ seen out.old.items ++ s.more_tokens commas.entry.now (map s.param_tokens items.entry.now)) }
+    ensures { IfOk result (λ u. shown out.new.items ≡ shown out.old.items ++ s.more_tokens commas.entry.now (map s.param_tokens items.entry.now)) }
 {
     let mut items = items;
     let mut commas = commas;
@@ -224,11 +229,11 @@ fn other_params(
 #[tactic(auto, using(crate::proofs::SpellParts::joins))]
 fn param_list(
     alloc: Global,
-    out: &mut Vec<JToken>,
+    out: &mut Vec<Written>,
     items: &[JParam],
     commas: &[Position],
 ) -> Result<(), NoMemory>
-    ensures { IfOk result (λ u. seen out.new.items ≡ seen out.old.items ++ s.listed commas.now (map s.param_tokens items.now)) }
+    ensures { IfOk result (λ u. shown out.new.items ≡ shown out.old.items ++ s.listed commas.now (map s.param_tokens items.now)) }
 {
     let [first, more @ ..] = items else {
         return Ok(());
@@ -239,8 +244,8 @@ fn param_list(
 
 /// The names behind a name.
 #[tactic(auto, using(crate::proofs::SpellParts::joins))]
-fn put_dotted(alloc: Global, out: &mut Vec<JToken>, rest: &[JDotted]) -> Result<(), NoMemory>
-    ensures { IfOk result (λ u. seen out.new.items ≡ seen out.old.items ++ s.dotted_tokens rest.entry.now) }
+fn put_dotted(alloc: Global, out: &mut Vec<Written>, rest: &[JDotted]) -> Result<(), NoMemory>
+    ensures { IfOk result (λ u. shown out.new.items ≡ shown out.old.items ++ s.dotted_tokens rest.entry.now) }
 {
     let mut rest = rest;
     while let [item, more @ ..] = rest {
@@ -251,17 +256,23 @@ fn put_dotted(alloc: Global, out: &mut Vec<JToken>, rest: &[JDotted]) -> Result<
     Ok(())
 }
 
+/// A name with those behind it (JLS 6.2).
 #[tactic(auto, using(crate::proofs::SpellParts::joins))]
-fn put_qualified(alloc: Global, out: &mut Vec<JToken>, name: &JQualified) -> Result<(), NoMemory>
-    ensures { IfOk result (λ u. seen out.new.items ≡ seen out.old.items ++ s.qualified_tokens name.now) }
+pub fn put_qualified(
+    alloc: Global,
+    out: &mut Vec<Written>,
+    name: &JQualified,
+) -> Result<(), NoMemory>
+    ensures { IfOk result (λ u. shown out.new.items ≡ shown out.old.items ++ s.qualified_tokens name.now) }
 {
     put_word(alloc, out, &name.name, name.at)?;
     put_dotted(alloc, out, name.rest.as_slice())
 }
 
+/// Pairs of brackets.
 #[tactic(auto, using(crate::proofs::SpellParts::joins))]
-fn put_brackets(out: &mut Vec<JToken>, pairs: &[JBrackets]) -> Result<(), NoMemory>
-    ensures { IfOk result (λ u. seen out.new.items ≡ seen out.old.items ++ s.brackets_tokens pairs.entry.now) }
+pub fn put_brackets(out: &mut Vec<Written>, pairs: &[JBrackets]) -> Result<(), NoMemory>
+    ensures { IfOk result (λ u. shown out.new.items ≡ shown out.old.items ++ s.brackets_tokens pairs.entry.now) }
 {
     let mut pairs = pairs;
     while let [pair, more @ ..] = pairs {
@@ -272,10 +283,11 @@ fn put_brackets(out: &mut Vec<JToken>, pairs: &[JBrackets]) -> Result<(), NoMemo
     Ok(())
 }
 
+/// A type (JLS 4).
 #[cycle(spell_types)]
 #[tactic(auto, using(crate::proofs::SpellParts::joins))]
-fn put_type(alloc: Global, out: &mut Vec<JToken>, x: &JType) -> Result<(), NoMemory>
-    ensures { IfOk result (λ u. seen out.new.items ≡ seen out.old.items ++ s.type_tokens x.now) }
+pub fn put_type(alloc: Global, out: &mut Vec<Written>, x: &JType) -> Result<(), NoMemory>
+    ensures { IfOk result (λ u. shown out.new.items ≡ shown out.old.items ++ s.type_tokens x.now) }
 {
     match x {
         JType::Primitive(kind, at) => put_keyword(out, primitive_word(*kind), *at),
@@ -293,15 +305,16 @@ fn put_type(alloc: Global, out: &mut Vec<JToken>, x: &JType) -> Result<(), NoMem
     }
 }
 
+/// Types with commas between them.
 #[cycle(spell_types)]
 #[tactic(auto, using(crate::proofs::SpellParts::joins))]
-fn put_types(
+pub fn put_types(
     alloc: Global,
-    out: &mut Vec<JToken>,
+    out: &mut Vec<Written>,
     items: &[JType],
     commas: &[Position],
 ) -> Result<(), NoMemory>
-    ensures { IfOk result (λ u. seen out.new.items ≡ seen out.old.items ++ s.listed commas.now (map s.type_tokens items.now)) }
+    ensures { IfOk result (λ u. shown out.new.items ≡ shown out.old.items ++ s.listed commas.now (map s.type_tokens items.now)) }
 {
     let [first, more @ ..] = items else {
         return Ok(());
@@ -314,11 +327,11 @@ fn put_types(
 #[tactic(auto, using(crate::proofs::SpellParts::joins))]
 fn other_types(
     alloc: Global,
-    out: &mut Vec<JToken>,
+    out: &mut Vec<Written>,
     items: &[JType],
     commas: &[Position],
 ) -> Result<(), NoMemory>
-    ensures { IfOk result (λ u. seen out.new.items ≡ seen out.old.items ++ s.more_tokens commas.entry.now (map s.type_tokens items.entry.now)) }
+    ensures { IfOk result (λ u. shown out.new.items ≡ shown out.old.items ++ s.more_tokens commas.entry.now (map s.type_tokens items.entry.now)) }
 {
     let mut items = items;
     let mut commas = commas;
@@ -334,9 +347,10 @@ fn other_types(
     Ok(())
 }
 
+/// `final` where it stands.
 #[tactic(auto, using(crate::proofs::SpellParts::joins))]
-fn put_final(out: &mut Vec<JToken>, is_final: Option<Position>) -> Result<(), NoMemory>
-    ensures { IfOk result (λ u. seen out.new.items ≡ seen out.old.items ++ s.final_tokens is_final) }
+pub fn put_final(out: &mut Vec<Written>, is_final: Option<Position>) -> Result<(), NoMemory>
+    ensures { IfOk result (λ u. shown out.new.items ≡ shown out.old.items ++ s.final_tokens is_final) }
 {
     match is_final {
         None => Ok(()),
@@ -344,9 +358,10 @@ fn put_final(out: &mut Vec<JToken>, is_final: Option<Position>) -> Result<(), No
     }
 }
 
+/// A parameter with its type (JLS 8.4.1).
 #[tactic(auto, using(crate::proofs::SpellParts::joins))]
-fn put_typed(alloc: Global, out: &mut Vec<JToken>, param: &JTypedParam) -> Result<(), NoMemory>
-    ensures { IfOk result (λ u. seen out.new.items ≡ seen out.old.items ++ s.typed_tokens param.now) }
+pub fn put_typed(alloc: Global, out: &mut Vec<Written>, param: &JTypedParam) -> Result<(), NoMemory>
+    ensures { IfOk result (λ u. shown out.new.items ≡ shown out.old.items ++ s.typed_tokens param.now) }
 {
     put_final(out, param.is_final)?;
     put_type(alloc, out, &param.kind)?;
@@ -356,11 +371,11 @@ fn put_typed(alloc: Global, out: &mut Vec<JToken>, param: &JTypedParam) -> Resul
 #[tactic(auto, using(crate::proofs::SpellParts::joins))]
 fn other_typed(
     alloc: Global,
-    out: &mut Vec<JToken>,
+    out: &mut Vec<Written>,
     items: &[JTypedParam],
     commas: &[Position],
 ) -> Result<(), NoMemory>
-    ensures { IfOk result (λ u. seen out.new.items ≡ seen out.old.items ++ s.more_tokens commas.entry.now (map s.typed_tokens items.entry.now)) }
+    ensures { IfOk result (λ u. shown out.new.items ≡ shown out.old.items ++ s.more_tokens commas.entry.now (map s.typed_tokens items.entry.now)) }
 {
     let mut items = items;
     let mut commas = commas;
@@ -376,14 +391,15 @@ fn other_typed(
     Ok(())
 }
 
+/// Parameters with commas between them.
 #[tactic(auto, using(crate::proofs::SpellParts::joins))]
-fn typed_list(
+pub fn typed_list(
     alloc: Global,
-    out: &mut Vec<JToken>,
+    out: &mut Vec<Written>,
     items: &[JTypedParam],
     commas: &[Position],
 ) -> Result<(), NoMemory>
-    ensures { IfOk result (λ u. seen out.new.items ≡ seen out.old.items ++ s.listed commas.now (map s.typed_tokens items.now)) }
+    ensures { IfOk result (λ u. shown out.new.items ≡ shown out.old.items ++ s.listed commas.now (map s.typed_tokens items.now)) }
 {
     let [first, more @ ..] = items else {
         return Ok(());
@@ -393,8 +409,8 @@ fn typed_list(
 }
 
 #[tactic(auto, using(crate::proofs::SpellParts::joins))]
-fn put_params(alloc: Global, out: &mut Vec<JToken>, params: &JParams) -> Result<(), NoMemory>
-    ensures { IfOk result (λ u. seen out.new.items ≡ seen out.old.items ++ s.params_tokens params.now) }
+fn put_params(alloc: Global, out: &mut Vec<Written>, params: &JParams) -> Result<(), NoMemory>
+    ensures { IfOk result (λ u. shown out.new.items ≡ shown out.old.items ++ s.params_tokens params.now) }
 {
     match params {
         JParams::One(param) => put_word(alloc, out, &param.name, param.at),
@@ -412,8 +428,8 @@ fn put_params(alloc: Global, out: &mut Vec<JToken>, params: &JParams) -> Result<
 }
 
 #[tactic(auto, using(crate::proofs::SpellParts::joins))]
-fn put_created(alloc: Global, out: &mut Vec<JToken>, made: &JCreated) -> Result<(), NoMemory>
-    ensures { IfOk result (λ u. seen out.new.items ≡ seen out.old.items ++ s.created_tokens made.now) }
+fn put_created(alloc: Global, out: &mut Vec<Written>, made: &JCreated) -> Result<(), NoMemory>
+    ensures { IfOk result (λ u. shown out.new.items ≡ shown out.old.items ++ s.created_tokens made.now) }
 {
     match made {
         JCreated::Type(kind) => put_type(alloc, out, kind),
@@ -425,91 +441,30 @@ fn put_created(alloc: Global, out: &mut Vec<JToken>, made: &JCreated) -> Result<
     }
 }
 
-fn copied_kind(alloc: Global, kind: &TokenKind) -> Result<TokenKind, NoMemory>
-    ensures { IfOk result (λ copy. copy ≡ kind.now) }
-{
-    match kind {
-        TokenKind::Mark(mark) => Ok(TokenKind::Mark(*mark)),
-        TokenKind::Keyword(word) => Ok(TokenKind::Keyword(*word)),
-        TokenKind::Name(name) => Ok(TokenKind::Name(copied(alloc, name)?)),
-        TokenKind::Integer(n) => Ok(TokenKind::Integer(*n)),
-        TokenKind::LeastInteger => Ok(TokenKind::LeastInteger),
-        TokenKind::Long(n) => Ok(TokenKind::Long(*n)),
-        TokenKind::LeastLong => Ok(TokenKind::LeastLong),
-        TokenKind::Character(unit) => Ok(TokenKind::Character(*unit)),
-        TokenKind::Text(units) => {
-            let units = Vec::from_slice(alloc, units.as_slice())?;
-            Ok(TokenKind::Text(Units::from_vec(units)))
-        }
-    }
-}
-
-#[tactic(auto, using(crate::proofs::SpellParts::joins), unfolding(java_tree::specs::Seen::seen))]
-fn put_copies(alloc: Global, out: &mut Vec<JToken>, tokens: &[JToken]) -> Result<(), NoMemory>
-    ensures { IfOk result (λ u. seen out.new.items ≡ seen out.old.items ++ seen tokens.entry.now) }
-{
-    let mut tokens = tokens;
-    while let [token, more @ ..] = tokens {
-        put_token(out, copied_kind(alloc, &token.kind)?, token.position)?;
-        tokens = more;
-    }
-    Ok(())
-}
-
-/// The tokens from the number `from` to before the number `to`, as far as there are any.
-fn part(file: &[JToken], from: usize, to: usize) -> &[JToken]
-    ensures { result.now ≡ take (to - from) (drop from file.now) }
-{
-    let rest = if from < file.len() {
-        &file[from..]
-    } else {
-        &[]
-    };
-    let count = to.saturating_sub(from);
-    if count < rest.len() {
-        &rest[..count]
-    } else {
-        rest
-    }
-}
-
-/// A body with its braces.
+/// A token with the body behind it.
 #[tactic(auto, using(crate::proofs::SpellParts::joins))]
-fn put_body(
-    alloc: Global,
-    out: &mut Vec<JToken>,
-    file: &[JToken],
-    body: Span,
-) -> Result<(), NoMemory>
-    ensures { IfOk result (λ u. seen out.new.items ≡ seen out.old.items ++ body_tokens (seen file.now) body) }
+fn put_span(out: &mut Vec<Written>, token: Written) -> Result<(), NoMemory>
+    ensures { IfOk result (λ u. shown out.new.items ≡ shown out.old.items ++ written_shown token ∷ []) }
 {
-    put(out, Mark::OpenCurly, body.opens)?;
-    put_copies(alloc, out, part(file, body.from as usize, body.to as usize))?;
-    put(out, Mark::CloseCurly, body.closes)
+    out.push(token)?;
+    Ok(())
 }
 
 /// The `)` behind arguments, with the body of an anonymous class where there is one.
 #[tactic(auto, using(crate::proofs::SpellParts::joins))]
-fn put_close(
-    alloc: Global,
-    out: &mut Vec<JToken>,
-    file: &[JToken],
-    rp: Position,
-    body: Option<Span>,
-) -> Result<(), NoMemory>
-    ensures { IfOk result (λ u. seen out.new.items ≡ seen out.old.items ++ expanded (seen file.now) (s.args_close rp body ∷ [])) }
+fn put_close(out: &mut Vec<Written>, rp: Position, body: Option<Span>) -> Result<(), NoMemory>
+    ensures { IfOk result (λ u. shown out.new.items ≡ shown out.old.items ++ s.args_close rp body ∷ []) }
 {
-    put(out, Mark::CloseRound, rp)?;
     match body {
-        None => Ok(()),
-        Some(body) => put_body(alloc, out, file, body),
+        None => put(out, Mark::CloseRound, rp),
+        Some(body) => put_span(out, Written::Body(rp, body)),
     }
 }
 
 /// A comma behind the last value, where there is one.
 #[tactic(auto, using(crate::proofs::SpellParts::joins))]
-fn put_trailing(out: &mut Vec<JToken>, more: Option<Position>) -> Result<(), NoMemory>
-    ensures { IfOk result (λ u. seen out.new.items ≡ seen out.old.items ++ s.trailing more) }
+pub fn put_trailing(out: &mut Vec<Written>, more: Option<Position>) -> Result<(), NoMemory>
+    ensures { IfOk result (λ u. shown out.new.items ≡ shown out.old.items ++ s.trailing more) }
 {
     match more {
         None => Ok(()),
@@ -520,19 +475,19 @@ fn put_trailing(out: &mut Vec<JToken>, more: Option<Position>) -> Result<(), NoM
 #[tactic(auto, using(crate::proofs::SpellParts::joins))]
 fn put_member(
     alloc: Global,
-    out: &mut Vec<JToken>,
+    out: &mut Vec<Written>,
     dot: Position,
     name: &Name,
     at: Position,
 ) -> Result<(), NoMemory>
-    ensures { IfOk result (λ u. seen out.new.items ≡ seen out.old.items ++ Token.Sign m.Dot dot ∷ Token.Id name.now at ∷ []) }
+    ensures { IfOk result (λ u. shown out.new.items ≡ shown out.old.items ++ Token.Sign m.Dot dot ∷ Token.Id name.now at ∷ []) }
 {
     put(out, Mark::Dot, dot)?;
     put_word(alloc, out, name, at)
 }
 
-fn put_new(out: &mut Vec<JToken>, at: Position) -> Result<(), NoMemory>
-    ensures { IfOk result (λ u. seen out.new.items ≡ seen out.old.items ++ Token.Word w.New at ∷ []) }
+fn put_new(out: &mut Vec<Written>, at: Position) -> Result<(), NoMemory>
+    ensures { IfOk result (λ u. shown out.new.items ≡ shown out.old.items ++ Token.Word w.New at ∷ []) }
 {
     put_keyword(out, Keyword::New, at)
 }
@@ -541,25 +496,21 @@ fn put_new(out: &mut Vec<JToken>, at: Position) -> Result<(), NoMemory>
 #[tactic(auto, using(crate::proofs::SpellParts::joins))]
 fn put_element(
     alloc: Global,
-    out: &mut Vec<JToken>,
+    out: &mut Vec<Written>,
     at: Position,
     element: &JType,
 ) -> Result<(), NoMemory>
-    ensures { IfOk result (λ u. seen out.new.items ≡ seen out.old.items ++ Token.Word w.New at ∷ s.type_tokens element.now) }
+    ensures { IfOk result (λ u. shown out.new.items ≡ shown out.old.items ++ Token.Word w.New at ∷ s.type_tokens element.now) }
 {
     put_new(out, at)?;
     put_type(alloc, out, element)
 }
 
+/// An expression (JLS 15).
 #[cycle(spell_exprs)]
 #[tactic(auto, using(crate::proofs::SpellParts::joins))]
-fn put_expr(
-    alloc: Global,
-    out: &mut Vec<JToken>,
-    file: &[JToken],
-    x: &JExpr,
-) -> Result<(), NoMemory>
-    ensures { IfOk result (λ u. seen out.new.items ≡ seen out.old.items ++ spelled (seen file.now) x.now) }
+pub fn put_expr(alloc: Global, out: &mut Vec<Written>, x: &JExpr) -> Result<(), NoMemory>
+    ensures { IfOk result (λ u. shown out.new.items ≡ shown out.old.items ++ s.tokens x.now) }
 {
     match x {
         JExpr::Name(name, at) => put_word(alloc, out, name, *at),
@@ -567,42 +518,35 @@ fn put_expr(
         JExpr::This(at) => put_keyword(out, Keyword::This, *at),
         JExpr::Paren(lp, inner, rp) => {
             put(out, Mark::OpenRound, *lp)?;
-            put_expr(alloc, out, file, inner.get())?;
+            put_expr(alloc, out, inner.get())?;
             put(out, Mark::CloseRound, *rp)
         }
         JExpr::Call(name, at, lp, items, commas, rp) => {
             put_word(alloc, out, name, *at)?;
-            put_args(alloc, out, file, *lp, items, commas, *rp)
+            put_args(alloc, out, *lp, items, commas, *rp)
         }
-        JExpr::Prefix(..) | JExpr::MinusLeast(..) | JExpr::Cast(..) => put_prefixed(
-            alloc, out, file, x,
-        ),
+        JExpr::Prefix(..) | JExpr::MinusLeast(..) | JExpr::Cast(..) => put_prefixed(alloc, out, x),
         JExpr::Binary(..) | JExpr::Instanceof(..) | JExpr::Conditional(..) | JExpr::Assign(..) => {
-            put_joined(alloc, out, file, x)
+            put_joined(alloc, out, x)
         }
-        JExpr::Lambda(..) | JExpr::LambdaBlock(..) => put_lambda(alloc, out, file, x),
+        JExpr::Lambda(..) | JExpr::LambdaBlock(..) => put_lambda(alloc, out, x),
         JExpr::New(..) | JExpr::NewArray(..) | JExpr::NewFilled(..) | JExpr::Braces(..) => {
-            put_made(alloc, out, file, x)
+            put_made(alloc, out, x)
         }
-        _ => put_access(alloc, out, file, x),
+        _ => put_access(alloc, out, x),
     }
 }
 
 /// An operator or a type before its operand, and nothing for another form.
 #[cycle(spell_exprs)]
 #[tactic(auto, using(crate::proofs::SpellParts::joins))]
-fn put_prefixed(
-    alloc: Global,
-    out: &mut Vec<JToken>,
-    file: &[JToken],
-    x: &JExpr,
-) -> Result<(), NoMemory>
-    ensures { IfOk result (λ u. form x.now ≡ Form.Prefixed → seen out.new.items ≡ seen out.old.items ++ spelled (seen file.now) x.now) }
+fn put_prefixed(alloc: Global, out: &mut Vec<Written>, x: &JExpr) -> Result<(), NoMemory>
+    ensures { IfOk result (λ u. form x.now ≡ Form.Prefixed → shown out.new.items ≡ shown out.old.items ++ s.tokens x.now) }
 {
     match x {
         JExpr::Prefix(op, at, inner) => {
             put(out, prefix_mark(*op), *at)?;
-            put_expr(alloc, out, file, inner.get())
+            put_expr(alloc, out, inner.get())
         }
         JExpr::MinusLeast(minus, literal, at) => {
             put(out, Mark::Minus, *minus)?;
@@ -612,7 +556,7 @@ fn put_prefixed(
             put(out, Mark::OpenRound, *lp)?;
             put_type(alloc, out, to)?;
             put(out, Mark::CloseRound, *rp)?;
-            put_expr(alloc, out, file, inner.get())
+            put_expr(alloc, out, inner.get())
         }
         _ => Ok(()),
     }
@@ -621,37 +565,32 @@ fn put_prefixed(
 /// A member, an element, or an operator behind its operand, and nothing for another form.
 #[cycle(spell_exprs)]
 #[tactic(auto, using(crate::proofs::SpellParts::joins))]
-fn put_access(
-    alloc: Global,
-    out: &mut Vec<JToken>,
-    file: &[JToken],
-    x: &JExpr,
-) -> Result<(), NoMemory>
-    ensures { IfOk result (λ u. form x.now ≡ Form.Access → seen out.new.items ≡ seen out.old.items ++ spelled (seen file.now) x.now) }
+fn put_access(alloc: Global, out: &mut Vec<Written>, x: &JExpr) -> Result<(), NoMemory>
+    ensures { IfOk result (λ u. form x.now ≡ Form.Access → shown out.new.items ≡ shown out.old.items ++ s.tokens x.now) }
 {
     match x {
         JExpr::SuperCall(above, dot, name, at, lp, items, commas, rp) => {
             put_keyword(out, Keyword::Super, *above)?;
             put_member(alloc, out, *dot, name, *at)?;
-            put_args(alloc, out, file, *lp, items, commas, *rp)
+            put_args(alloc, out, *lp, items, commas, *rp)
         }
         JExpr::Field(left, dot, name, at) => {
-            put_expr(alloc, out, file, left.get())?;
+            put_expr(alloc, out, left.get())?;
             put_member(alloc, out, *dot, name, *at)
         }
         JExpr::Method(left, dot, name, at, lp, items, commas, rp) => {
-            put_expr(alloc, out, file, left.get())?;
+            put_expr(alloc, out, left.get())?;
             put_member(alloc, out, *dot, name, *at)?;
-            put_args(alloc, out, file, *lp, items, commas, *rp)
+            put_args(alloc, out, *lp, items, commas, *rp)
         }
         JExpr::Element(left, lp, index, rp) => {
-            put_expr(alloc, out, file, left.get())?;
+            put_expr(alloc, out, left.get())?;
             put(out, Mark::OpenSquare, *lp)?;
-            put_expr(alloc, out, file, index.get())?;
+            put_expr(alloc, out, index.get())?;
             put(out, Mark::CloseSquare, *rp)
         }
         JExpr::Postfix(left, op, at) => {
-            put_expr(alloc, out, file, left.get())?;
+            put_expr(alloc, out, left.get())?;
             put(out, postfix_mark(*op), *at)
         }
         _ => Ok(()),
@@ -661,36 +600,31 @@ fn put_access(
 /// An operator between its operands, and nothing for another form.
 #[cycle(spell_exprs)]
 #[tactic(auto, using(crate::proofs::SpellParts::joins))]
-fn put_joined(
-    alloc: Global,
-    out: &mut Vec<JToken>,
-    file: &[JToken],
-    x: &JExpr,
-) -> Result<(), NoMemory>
-    ensures { IfOk result (λ u. form x.now ≡ Form.Joined → seen out.new.items ≡ seen out.old.items ++ spelled (seen file.now) x.now) }
+fn put_joined(alloc: Global, out: &mut Vec<Written>, x: &JExpr) -> Result<(), NoMemory>
+    ensures { IfOk result (λ u. form x.now ≡ Form.Joined → shown out.new.items ≡ shown out.old.items ++ s.tokens x.now) }
 {
     match x {
         JExpr::Binary(left, op, at, right) => {
-            put_expr(alloc, out, file, left.get())?;
+            put_expr(alloc, out, left.get())?;
             put_operator(out, *op, *at)?;
-            put_expr(alloc, out, file, right.get())
+            put_expr(alloc, out, right.get())
         }
         JExpr::Instanceof(left, at, to) => {
-            put_expr(alloc, out, file, left.get())?;
+            put_expr(alloc, out, left.get())?;
             put_keyword(out, Keyword::Instanceof, *at)?;
             put_type(alloc, out, to)
         }
         JExpr::Conditional(left, question, middle, colon, last) => {
-            put_expr(alloc, out, file, left.get())?;
+            put_expr(alloc, out, left.get())?;
             put(out, Mark::Question, *question)?;
-            put_expr(alloc, out, file, middle.get())?;
+            put_expr(alloc, out, middle.get())?;
             put(out, Mark::Colon, *colon)?;
-            put_expr(alloc, out, file, last.get())
+            put_expr(alloc, out, last.get())
         }
         JExpr::Assign(left, op, at, right) => {
-            put_expr(alloc, out, file, left.get())?;
+            put_expr(alloc, out, left.get())?;
             put_assign(out, *op, *at)?;
-            put_expr(alloc, out, file, right.get())
+            put_expr(alloc, out, right.get())
         }
         _ => Ok(()),
     }
@@ -699,24 +633,18 @@ fn put_joined(
 /// A lambda, and nothing for another form.
 #[cycle(spell_exprs)]
 #[tactic(auto, using(crate::proofs::SpellParts::joins))]
-fn put_lambda(
-    alloc: Global,
-    out: &mut Vec<JToken>,
-    file: &[JToken],
-    x: &JExpr,
-) -> Result<(), NoMemory>
-    ensures { IfOk result (λ u. form x.now ≡ Form.Lambda → seen out.new.items ≡ seen out.old.items ++ spelled (seen file.now) x.now) }
+fn put_lambda(alloc: Global, out: &mut Vec<Written>, x: &JExpr) -> Result<(), NoMemory>
+    ensures { IfOk result (λ u. form x.now ≡ Form.Lambda → shown out.new.items ≡ shown out.old.items ++ s.tokens x.now) }
 {
     match x {
         JExpr::Lambda(params, at, body) => {
             put_params(alloc, out, params)?;
             put(out, Mark::Arrow, *at)?;
-            put_expr(alloc, out, file, body.get())
+            put_expr(alloc, out, body.get())
         }
         JExpr::LambdaBlock(params, at, body) => {
             put_params(alloc, out, params)?;
-            put(out, Mark::Arrow, *at)?;
-            put_body(alloc, out, file, *body)
+            put_span(out, Written::Block(*at, *body))
         }
         _ => Ok(()),
     }
@@ -725,36 +653,31 @@ fn put_lambda(
 /// An object or an array that is created, or the values of an array, and nothing for another form.
 #[cycle(spell_exprs)]
 #[tactic(auto, using(crate::proofs::SpellParts::joins))]
-fn put_made(
-    alloc: Global,
-    out: &mut Vec<JToken>,
-    file: &[JToken],
-    x: &JExpr,
-) -> Result<(), NoMemory>
-    ensures { IfOk result (λ u. form x.now ≡ Form.Made → seen out.new.items ≡ seen out.old.items ++ spelled (seen file.now) x.now) }
+fn put_made(alloc: Global, out: &mut Vec<Written>, x: &JExpr) -> Result<(), NoMemory>
+    ensures { IfOk result (λ u. form x.now ≡ Form.Made → shown out.new.items ≡ shown out.old.items ++ s.tokens x.now) }
 {
     match x {
         JExpr::New(at, made, lp, items, commas, rp, body) => {
             put_new(out, *at)?;
             put_created(alloc, out, made)?;
             put(out, Mark::OpenRound, *lp)?;
-            put_list(alloc, out, file, items.as_slice(), commas.as_slice())?;
-            put_close(alloc, out, file, *rp, *body)
+            put_list(alloc, out, items.as_slice(), commas.as_slice())?;
+            put_close(out, *rp, *body)
         }
         JExpr::NewArray(at, element, lb, size, rb, pairs) => {
             put_element(alloc, out, *at, element)?;
             put(out, Mark::OpenSquare, *lb)?;
-            put_expr(alloc, out, file, size.get())?;
+            put_expr(alloc, out, size.get())?;
             put(out, Mark::CloseSquare, *rb)?;
             put_brackets(out, pairs.as_slice())
         }
         JExpr::NewFilled(at, element, pairs, lc, items, commas, more, rc) => {
             put_element(alloc, out, *at, element)?;
             put_brackets(out, pairs.as_slice())?;
-            put_braces(alloc, out, file, *lc, items, commas, *more, *rc)
+            put_braces(alloc, out, *lc, items, commas, *more, *rc)
         }
         JExpr::Braces(lc, items, commas, more, rc) => {
-            put_braces(alloc, out, file, *lc, items, commas, *more, *rc)
+            put_braces(alloc, out, *lc, items, commas, *more, *rc)
         }
         _ => Ok(()),
     }
@@ -763,19 +686,18 @@ fn put_made(
 /// The arguments with their parentheses.
 #[cycle(spell_exprs)]
 #[tactic(auto, using(crate::proofs::SpellParts::joins))]
-fn put_args(
+pub fn put_args(
     alloc: Global,
-    out: &mut Vec<JToken>,
-    file: &[JToken],
+    out: &mut Vec<Written>,
     lp: Position,
     items: &Items<JExpr>,
     commas: &Items<Position>,
     rp: Position,
 ) -> Result<(), NoMemory>
-    ensures { IfOk result (λ u. seen out.new.items ≡ seen out.old.items ++ Token.Sign m.OpenRound lp ∷ (s.listed commas.now (map (spelled (seen file.now)) items.now) ++ Token.Sign m.CloseRound rp ∷ [])) }
+    ensures { IfOk result (λ u. shown out.new.items ≡ shown out.old.items ++ Token.Sign m.OpenRound lp ∷ (s.listed commas.now (map s.tokens items.now) ++ Token.Sign m.CloseRound rp ∷ [])) }
 {
     put(out, Mark::OpenRound, lp)?;
-    put_list(alloc, out, file, items.as_slice(), commas.as_slice())?;
+    put_list(alloc, out, items.as_slice(), commas.as_slice())?;
     put(out, Mark::CloseRound, rp)
 }
 
@@ -784,50 +706,48 @@ fn put_args(
 #[tactic(auto, using(crate::proofs::SpellParts::joins))]
 fn put_braces(
     alloc: Global,
-    out: &mut Vec<JToken>,
-    file: &[JToken],
+    out: &mut Vec<Written>,
     lc: Position,
     items: &Items<JExpr>,
     commas: &Items<Position>,
     more: Option<Position>,
     rc: Position,
 ) -> Result<(), NoMemory>
-    ensures { IfOk result (λ u. seen out.new.items ≡ seen out.old.items ++ s.braces_tokens lc (map (spelled (seen file.now)) items.now) commas.now more rc) }
+    ensures { IfOk result (λ u. shown out.new.items ≡ shown out.old.items ++ s.braces_tokens lc (map s.tokens items.now) commas.now more rc) }
 {
     put(out, Mark::OpenCurly, lc)?;
-    put_list(alloc, out, file, items.as_slice(), commas.as_slice())?;
+    put_list(alloc, out, items.as_slice(), commas.as_slice())?;
     put_trailing(out, more)?;
     put(out, Mark::CloseCurly, rc)
 }
 
+/// Expressions with commas between them.
 #[cycle(spell_exprs)]
 #[tactic(auto, using(crate::proofs::SpellParts::joins))]
-fn put_list(
+pub fn put_list(
     alloc: Global,
-    out: &mut Vec<JToken>,
-    file: &[JToken],
+    out: &mut Vec<Written>,
     items: &[JExpr],
     commas: &[Position],
 ) -> Result<(), NoMemory>
-    ensures { IfOk result (λ u. seen out.new.items ≡ seen out.old.items ++ s.listed commas.now (map (spelled (seen file.now)) items.now)) }
+    ensures { IfOk result (λ u. shown out.new.items ≡ shown out.old.items ++ s.listed commas.now (map s.tokens items.now)) }
 {
     let [first, more @ ..] = items else {
         return Ok(());
     };
-    put_expr(alloc, out, file, first)?;
-    put_others(alloc, out, file, more, commas)
+    put_expr(alloc, out, first)?;
+    put_others(alloc, out, more, commas)
 }
 
 #[cycle(spell_exprs)]
 #[tactic(auto, using(crate::proofs::SpellParts::joins))]
 fn put_others(
     alloc: Global,
-    out: &mut Vec<JToken>,
-    file: &[JToken],
+    out: &mut Vec<Written>,
     items: &[JExpr],
     commas: &[Position],
 ) -> Result<(), NoMemory>
-    ensures { IfOk result (λ u. seen out.new.items ≡ seen out.old.items ++ s.more_tokens commas.entry.now (map (spelled (seen file.now)) items.entry.now)) }
+    ensures { IfOk result (λ u. shown out.new.items ≡ shown out.old.items ++ s.more_tokens commas.entry.now (map s.tokens items.entry.now)) }
 {
     let mut items = items;
     let mut commas = commas;
@@ -836,20 +756,9 @@ fn put_others(
             return Ok(());
         };
         put(out, Mark::Comma, *at)?;
-        put_expr(alloc, out, file, item)?;
+        put_expr(alloc, out, item)?;
         items = more;
         commas = rest;
     }
     Ok(())
-}
-
-/// The tokens of a tree, from the first to the last. Those of its bodies are copied from the file,
-/// in which they are counted from 0.
-#[tactic(auto, using(crate::proofs::SpellParts::joins))]
-pub fn spell(alloc: Global, file: &[JToken], x: &JExpr) -> Result<Vec<JToken>, NoMemory>
-    ensures { IfOk result (λ v. seen v.items ≡ expanded (seen file.now) (s.tokens x.now)) }
-{
-    let mut out = Vec::new(alloc);
-    put_expr(alloc, &mut out, file, x)?;
-    Ok(out)
 }

@@ -1,7 +1,6 @@
-use Rattle.java_tree.specs.Seen.{seen}
+use Rattle.java_writing.specs.Shown.{shown}
 use Rattle.std.proofs.Common.{◌≡◌, ◌≤◌, ◌+◌, ◌*◌, ◌++◌, length, map}
 use Rattle.java_tree.specs.Trees as s
-use Rattle.java_writing.specs.Forms.{spelled}
 use Rattle.java_writing.proofs.writing.+spell_exprs.Given as goal
 
 abbrev pub decreases-put_expr : goal.decreases-put_expr
@@ -36,7 +35,7 @@ decreases-put_others l = 5 * s.deepest (map s.depth l.items.now) + 2
 
 abbrev pub invariant-put_others-loop-commas : goal.invariant-put_others-loop-commas
 invariant-put_others-loop-commas l = record {
-  same : seen l.out.items ++ s.more_tokens l.commas (map (spelled (seen l.file)) l.items) ≡ seen l.fn.out.items ++ s.more_tokens l.fn.commas (map (spelled (seen l.file)) l.fn.items);
+  same : shown l.out.items ++ s.more_tokens l.commas (map s.tokens l.items) ≡ shown l.fn.out.items ++ s.more_tokens l.fn.commas (map s.tokens l.fn.items);
   within : s.deepest (map s.depth l.items) ≤ s.deepest (map s.depth l.fn.items);
 }
 

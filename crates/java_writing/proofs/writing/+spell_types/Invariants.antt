@@ -1,4 +1,4 @@
-use Rattle.java_tree.specs.Seen.{seen}
+use Rattle.java_writing.specs.Shown.{shown}
 use Rattle.std.proofs.Common.{◌≡◌, ◌≤◌, ◌+◌, ◌*◌, ◌++◌, length, map}
 use Rattle.java_tree.specs.Trees as s
 use Rattle.java_writing.proofs.writing.+spell_types.Given as goal
@@ -14,7 +14,7 @@ decreases-other_types l = 3 * s.deepest (map s.type_depth l.items.now) + 1
 
 abbrev pub invariant-other_types-loop-commas : goal.invariant-other_types-loop-commas
 invariant-other_types-loop-commas l = record {
-  same : (seen l.out.items) ++ s.more_tokens l.commas (map s.type_tokens l.items) ≡ (seen l.fn.out.items) ++ s.more_tokens l.fn.commas (map s.type_tokens l.fn.items);
+  same : (shown l.out.items) ++ s.more_tokens l.commas (map s.type_tokens l.items) ≡ (shown l.fn.out.items) ++ s.more_tokens l.fn.commas (map s.type_tokens l.fn.items);
   within : s.deepest (map s.type_depth l.items) ≤ s.deepest (map s.type_depth l.fn.items);
 }
 

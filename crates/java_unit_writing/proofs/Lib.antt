@@ -1,0 +1,3 @@
+pub mod UnitTexts
+pub mod Weighted
+pub mod Stack

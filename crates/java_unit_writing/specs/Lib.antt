@@ -1,0 +1,3 @@
+pub mod Forms
+pub mod Weights
+pub mod Work
