@@ -1,26 +1,17 @@
 -- The tokens of the forms that hold labels, groups or catches.
-use Rattle.std.proofs.Common.{◌≡◌, List, [], ◌∷◌, ◌++◌, map, ap, sym, ◌∙◌}
+use Rattle.std.proofs.Common.{◌≡◌, List, ◌∷◌, ◌++◌, map, ap, sym, ◌∙◌}
 use Rattle.java_tree.specs.declared.tokens.Position.{Position}
 use Rattle.java_tree.specs.declared.exprs.JExpr.{JExpr}
 use Rattle.java_tree.specs.Trees.{tokens, typed_tokens}
-use Rattle.java_heads.specs.declared.statements.JSimple.{JSimple}
-use Rattle.java_heads.specs.declared.statements.JForHead.{JForHead}
-use Rattle.java_heads.specs.declared.statements.JLock.{JLock}
-use Rattle.java_heads.specs.Heads.{simple_tokens, for_tokens, lock_tokens, switch_tokens}
-use Rattle.java_members.specs.declared.heads.JMemberHead.{JMemberHead}
-use Rattle.java_members.specs.declared.heads.JTypeHead.{JTypeHead}
-use Rattle.java_members.specs.declared.lines.JConstants.{JConstants}
-use Rattle.java_members.specs.Heads.{member_tokens, type_head_tokens}
-use Rattle.java_units.specs.declared.statements.JBody.{JBody, roll-JBody, fold-roll-JBody}
-use Rattle.java_units.specs.declared.statements.JBody.TheVariants as body
+use Rattle.java_heads.specs.Heads.{switch_tokens}
+use Rattle.java_units.specs.declared.statements.JBody.{JBody}
 use Rattle.java_units.specs.declared.statements.JCase.{JCase, roll-JCase, out-JCase, roll-out-JCase, fold-roll-JCase}
 use Rattle.java_units.specs.declared.statements.JCaseGroup.{JCaseGroup, roll-JCaseGroup, out-JCaseGroup, roll-out-JCaseGroup, fold-roll-JCaseGroup}
 use Rattle.java_units.specs.declared.statements.JCatch.{JCatch, roll-JCatch, out-JCatch, roll-out-JCatch, fold-roll-JCatch}
-use Rattle.java_units.specs.declared.statements.JMember.{JMember, roll-JMember, fold-roll-JMember}
-use Rattle.java_units.specs.declared.statements.JMember.TheVariants as member
-use Rattle.java_units.specs.declared.statements.JStatement.{JStatement, roll-JStatement, fold-roll-JStatement}
+use Rattle.java_units.specs.declared.statements.JMember.{JMember}
+use Rattle.java_units.specs.declared.statements.JStatement.{JStatement, fold-roll-JStatement}
 use Rattle.java_units.specs.declared.statements.JStatement.TheVariants as st
-use Rattle.java_units.specs.declared.statements.JBody.TheOpen.{JBody-F, JCase-F, JCaseGroup-F, JCatch-F, JMember-F, JStatement-F}
+use Rattle.java_units.specs.declared.statements.JBody.TheOpen.{JCase-F, JCaseGroup-F, JCatch-F, JStatement-F}
 use Rattle.java_tree.specs.declared.tokens.Mark.TheVariants as m
 use Rattle.java_tree.specs.declared.tokens.Keyword.TheVariants as w
 use Rattle.java_tree.specs.Seen.{Token, Tokens}

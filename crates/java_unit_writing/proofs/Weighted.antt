@@ -11,14 +11,14 @@ use Rattle.java_members.specs.declared.heads.JMemberHead.{JMemberHead}
 use Rattle.java_members.specs.declared.heads.JTypeHead.{JTypeHead}
 use Rattle.java_members.specs.declared.lines.JConstants.{JConstants}
 use Rattle.java_members.specs.Heads.{member_tokens, type_head_tokens}
-use Rattle.java_units.specs.declared.statements.JBody.{JBody, roll-JBody, fold-roll-JBody}
+use Rattle.java_units.specs.declared.statements.JBody.{JBody, fold-roll-JBody}
 use Rattle.java_units.specs.declared.statements.JBody.TheVariants as body
 use Rattle.java_units.specs.declared.statements.JCase.{JCase, roll-JCase, out-JCase, roll-out-JCase, fold-roll-JCase}
 use Rattle.java_units.specs.declared.statements.JCaseGroup.{JCaseGroup, roll-JCaseGroup, out-JCaseGroup, roll-out-JCaseGroup, fold-roll-JCaseGroup}
 use Rattle.java_units.specs.declared.statements.JCatch.{JCatch, roll-JCatch, out-JCatch, roll-out-JCatch, fold-roll-JCatch}
-use Rattle.java_units.specs.declared.statements.JMember.{JMember, roll-JMember, fold-roll-JMember}
+use Rattle.java_units.specs.declared.statements.JMember.{JMember, fold-roll-JMember}
 use Rattle.java_units.specs.declared.statements.JMember.TheVariants as member
-use Rattle.java_units.specs.declared.statements.JStatement.{JStatement, roll-JStatement, fold-roll-JStatement}
+use Rattle.java_units.specs.declared.statements.JStatement.{JStatement, fold-roll-JStatement}
 use Rattle.java_units.specs.declared.statements.JStatement.TheVariants as st
 use Rattle.java_units.specs.declared.statements.JBody.TheOpen.{JBody-F, JCase-F, JCaseGroup-F, JCatch-F, JMember-F, JStatement-F}
 use Rattle.java_unit_writing.specs.Weights.{total, text_weight, constants_weight, body_weight, case_weight, group_weight, catch_weight, statement_weight, member_weight, body_weight_by, member_weight_by, statement_weight_by, case_weight_by, group_weight_by, catch_weight_by}

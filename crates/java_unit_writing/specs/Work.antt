@@ -1,6 +1,6 @@
 -- What is still to be written of a unit.
 use Rattle.std.specs.Prelude.{ℕ, ◌+◌, List, [], ◌∷◌, ◌++◌, map, drop, reverse}
-use Rattle.java_tree.specs.Seen.{Token, Tokens}
+use Rattle.java_tree.specs.Seen.{Tokens}
 use Rattle.java_writing.specs.declared.written.Written.{Written}
 use Rattle.java_writing.specs.Shown.{shown, written_shown}
 use Rattle.java_units.specs.declared.statements.JCase.{JCase, fold-JCase}

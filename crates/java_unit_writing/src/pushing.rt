@@ -134,14 +134,14 @@ pub fn push_headed<'a>(
     at: Position,
     lp: Position,
     text: Vec<Written>,
-    bodies: &'a [JBody],
+    bodies: &'a Items<JBody>,
     rp: Position,
 ) -> Result<(), NoMemory>
     ensures text { IfOk result (λ u. todo stack.new.items ≡ headed (word_seen word at) lp (filled (shown text.items) (map body_tokens bodies.now)) rp (todo stack.old.items)) }
     ensures weight { IfOk result (λ u. weight stack.new.items ≡ 3 + (text_weight (shown text.items) (map body_weight bodies.now) + weight stack.old.items)) }
 {
     push_mark(stack, Mark::CloseRound, rp)?;
-    push_text(stack, text, bodies)?;
+    push_text(stack, text, bodies.as_slice())?;
     push_mark(stack, Mark::OpenRound, lp)?;
     push_keyword(stack, word, at)
 }
@@ -155,7 +155,7 @@ pub fn push_test<'a>(
     at: Position,
     lp: Position,
     test: &JExpr,
-    bodies: &'a [JBody],
+    bodies: &'a Items<JBody>,
     rp: Position,
 ) -> Result<(), NoMemory>
     ensures text { IfOk result (λ u. todo stack.new.items ≡ headed (word_seen word at) lp (filled (tokens test.now) (map body_tokens bodies.now)) rp (todo stack.old.items)) }

@@ -28,74 +28,29 @@ fn open_tested<'a>(
     match x {
         JStatement::If(at, lp, test, bodies, rp, chosen) => {
             push(stack, Work::Statement(chosen))?;
-            push_test(
-                alloc,
-                stack,
-                Keyword::If,
-                *at,
-                *lp,
-                test,
-                bodies.as_slice(),
-                *rp,
-            )
+            push_test(alloc, stack, Keyword::If, *at, *lp, test, bodies, *rp)
         }
         JStatement::IfElse(at, lp, test, bodies, rp, chosen, else_at, other) => {
             push(stack, Work::Statement(other))?;
             push_keyword(stack, Keyword::Else, *else_at)?;
             push(stack, Work::Statement(chosen))?;
-            push_test(
-                alloc,
-                stack,
-                Keyword::If,
-                *at,
-                *lp,
-                test,
-                bodies.as_slice(),
-                *rp,
-            )
+            push_test(alloc, stack, Keyword::If, *at, *lp, test, bodies, *rp)
         }
         JStatement::While(at, lp, test, bodies, rp, body) => {
             push(stack, Work::Statement(body))?;
-            push_test(
-                alloc,
-                stack,
-                Keyword::While,
-                *at,
-                *lp,
-                test,
-                bodies.as_slice(),
-                *rp,
-            )
+            push_test(alloc, stack, Keyword::While, *at, *lp, test, bodies, *rp)
         }
-        JStatement::Do(at, body, while_at, lp, test, bodies, rp, end) => {
+        JStatement::Do(at, body, again, lp, test, bodies, rp, end) => {
             push_mark(stack, Mark::Semicolon, *end)?;
-            push_test(
-                alloc,
-                stack,
-                Keyword::While,
-                *while_at,
-                *lp,
-                test,
-                bodies.as_slice(),
-                *rp,
-            )?;
+            push_test(alloc, stack, Keyword::While, *again, *lp, test, bodies, *rp)?;
             push(stack, Work::Statement(body))?;
             push_keyword(stack, Keyword::Do, *at)
         }
-        JStatement::Switch(at, lp, subject, bodies, rp, left, groups, right) => {
+        JStatement::Switch(at, lp, test, bodies, rp, left, groups, right) => {
             push_mark(stack, Mark::CloseCurly, *right)?;
             push(stack, Work::Groups(groups.as_slice()))?;
             push_mark(stack, Mark::OpenCurly, *left)?;
-            push_test(
-                alloc,
-                stack,
-                Keyword::Switch,
-                *at,
-                *lp,
-                subject,
-                bodies.as_slice(),
-                *rp,
-            )
+            push_test(alloc, stack, Keyword::Switch, *at, *lp, test, bodies, *rp)
         }
         _ => Ok(()),
     }
@@ -149,20 +104,12 @@ pub fn open_statement<'a>(
         JStatement::For(at, lp, head, bodies, rp, body) => {
             let text = for_text(alloc, head)?;
             push(stack, Work::Statement(body))?;
-            push_headed(stack, Keyword::For, *at, *lp, text, bodies.as_slice(), *rp)
+            push_headed(stack, Keyword::For, *at, *lp, text, bodies, *rp)
         }
         JStatement::Synchronized(at, lp, lock, bodies, rp, left, inside, right) => {
             let text = lock_text(alloc, lock)?;
             push_block(stack, *left, inside, *right)?;
-            push_headed(
-                stack,
-                Keyword::Synchronized,
-                *at,
-                *lp,
-                text,
-                bodies.as_slice(),
-                *rp,
-            )
+            push_headed(stack, Keyword::Synchronized, *at, *lp, text, bodies, *rp)
         }
         JStatement::Try(..) | JStatement::TryFinally(..) => open_tried(stack, x),
         _ => open_tested(alloc, stack, x),
