@@ -1,0 +1,26 @@
+-- What a file declares.
+use Rattle.std.proofs.Common.{◌≡◌, ℕ, List, [], ◌∷◌, true, false, IfOk, Option, Some, None, Result, Ok, Err, refl, sym, ap}
+use Rattle.j2k_base.specs.declared.errors.NoMemory.{NoMemory}
+use Rattle.java_tree.specs.Seen.{Tokens}
+use Rattle.java_reading.specs.Reading.{whole}
+use Rattle.java_parts.specs.Gives.{Gives, Always}
+use Rattle.java_units.specs.Reading as r
+use Rattle.java_files.specs.declared.files.Declared.{Declared}
+use Rattle.java_files.specs.Files.{declared_seen, one_seen}
+
+pub whole_ends : {A : Type 0} → (x : A) (ts : Tokens) → r.is_end ts ≡ true → whole (Some (x, ts)) ≡ Some x
+whole_ends x [] e = refl
+whole_ends x (t ∷ ts) e = absurd (cc e)
+
+pub whole_goes_on : {A : Type 0} → (x : A) (ts : Tokens) → r.is_end ts ≡ false → whole (Some (x, ts)) ≡ None
+whole_goes_on x [] e = absurd (cc e)
+whole_goes_on x (t ∷ ts) e = refl
+
+pub given : (o : Option r.Declared) (x : Result (Option Declared) NoMemory) → Gives one_seen Always o x → IfOk x (λ y. declared_seen y ≡ o)
+given o (Err e) g = tt
+given o (Ok None) g = sym g
+given o (Ok (Some x)) g = sym g.0
+
+pub ruleset ends = (whole_ends, whole_goes_on)
+
+pub ruleset units = (given)
