@@ -1,5 +1,5 @@
 -- Reading, a step at a time.
-use Rattle.std.proofs.Common.{◌≡◌, ℕ, Bool, true, false, if◌then◌else◌, List, [], ◌∷◌, Option, Some, None, refl}
+use Rattle.std.proofs.Common.{◌≡◌, ℕ, true, false, if◌then◌else◌, [], ◌∷◌, Option, Some, None, refl}
 use Rattle.java_tree.specs.declared.tokens.Position.{Position}
 use Rattle.java_tree.specs.declared.tokens.Mark.TheVariants as mark
 use Rattle.java_tree.specs.declared.tokens.Keyword.TheVariants as w
@@ -8,7 +8,6 @@ use Rattle.java_tree.specs.declared.exprs.JExpr.{JExpr}
 use Rattle.java_reading.specs.Reading.{Read, Listed, ◌>>=◌, maybe, is_some, comma, close, open_round, ident, type_read, base_read, typed_read, args_from, read}
 use Rattle.java_heads.specs.Reading.{args_read}
 use Rattle.java_members.specs.declared.lines.JArguments.{JArguments}
-use Rattle.java_members.specs.declared.heads.JMemberHead.{JMemberHead}
 use Rattle.java_members.specs.declared.heads.JMemberHead.TheVariants as head
 use Rattle.java_members.specs.Reading as m
 use Rattle.java_clauses.proofs.Rules.{whole_end, whole_more}

@@ -1,5 +1,5 @@
 -- What is read is the one that is spelled.
-use Rattle.std.proofs.Common.{◌≡◌, ℕ, Bool, true, false, IfOk, Option, Some, None, Result, Ok, Err, sym, ◌∙◌}
+use Rattle.std.proofs.Common.{◌≡◌, ℕ, true, false, IfOk, Option, Some, None, Result, Ok, Err, sym, ◌∙◌}
 use Rattle.j2k_base.specs.declared.errors.NoMemory.{NoMemory}
 use Rattle.java_tree.specs.Seen.{Tokens}
 use Rattle.java_reading.proofs.Tools.{some_same}
@@ -8,7 +8,7 @@ use Rattle.java_members.specs.declared.heads.JTypeHead.{JTypeHead}
 use Rattle.java_members.specs.declared.lines.JConstants.{JConstants}
 use Rattle.java_members.specs.declared.lines.JPackage.{JPackage}
 use Rattle.java_members.specs.declared.lines.JImport.{JImport}
-use Rattle.java_members.specs.Heads.{member_tokens, MemberStands, MemberSpells, TypeHeadSpells, ConstantsSpell, PackageSpells, ImportSpells}
+use Rattle.java_members.specs.Heads.{TypeHeadSpells, ConstantsSpell, PackageSpells, ImportSpells}
 use Rattle.java_members.specs.Reading.{before_semicolon, before_block, type_head, constants, package_line, import_line}
 use Rattle.java_members.proofs.Members.{semicolon_is_spelled, semicolon_is_read, block_is_spelled, block_is_read}
 use Rattle.java_members.proofs.Types.{type_is_spelled, type_is_read}

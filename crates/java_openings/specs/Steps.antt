@@ -6,7 +6,7 @@ use Rattle.java_tree.specs.declared.tokens.Mark.TheVariants as mark
 use Rattle.java_tree.specs.declared.tokens.Keyword.TheVariants as w
 use Rattle.java_tree.specs.declared.types.JType.{JType}
 use Rattle.java_tree.specs.Seen.{Token, Tokens}
-use Rattle.java_reading.specs.Reading.{Read, Reader, ◌>>=◌, whole, dot, ident, qualified, type_read}
+use Rattle.java_reading.specs.Reading.{Reader, ◌>>=◌, whole, dot, ident, qualified, type_read}
 use Rattle.java_members.specs.declared.modifiers.ModifierKind.TheVariants as modifier
 use Rattle.java_members.specs.declared.modifiers.JModifier.{JModifier}
 use Rattle.java_members.specs.declared.parts.JTypeParams.{JTypeParams}

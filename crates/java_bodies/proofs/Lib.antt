@@ -1,0 +1,7 @@
+pub mod Many
+pub mod Sizes
+pub mod Steps
+pub mod Texts
+pub mod Parts
+pub mod Each
+pub mod Fits

@@ -1,0 +1,43 @@
+-- The text of a head with what ends it.
+use Rattle.std.proofs.Common.{◌≡◌, List, [], ◌∷◌, ◌++◌, take, Some, None, refl, ap}
+use Rattle.std.proofs.lemmas.List.{map-append}
+use Rattle.java_tree.specs.declared.tokens.Position.{Position}
+use Rattle.java_tree.specs.declared.tokens.Mark.TheVariants as m
+use Rattle.java_tree.specs.Seen.{Token, Tokens}
+use Rattle.java_reading.specs.Reading.{colon}
+use Rattle.java_heads.specs.Reading.{semicolon}
+use Rattle.java_pieces.specs.declared.piece.Piece.{Piece}
+use Rattle.java_pieces.specs.Shown.{shown, piece_shown}
+use Rattle.java_units.specs.Reading.{constants_end}
+
+pub shown_nil : shown [] ≡ []
+unfolding shown
+shown_nil = refl
+
+pub shown_cons : (x : Piece) (xs : List Piece) → shown (x ∷ xs) ≡ piece_shown x ∷ shown xs
+unfolding shown
+shown_cons x xs = refl
+
+pub shown_append : (xs ys : List Piece) → shown (xs ++ ys) ≡ shown xs ++ shown ys
+unfolding shown
+shown_append [] ys = refl
+shown_append (x ∷ xs) ys = ap (λ (l : Tokens). piece_shown x ∷ l) (shown_append xs ys)
+
+pub colon_first : (ts us : Tokens) (at : Position) → colon ts ≡ Some (at, us) → take 1 ts ≡ Token.Sign m.Colon at ∷ []
+colon_first (Token.Sign m.Colon c ∷ ts) us at e = let same : c ≡ at = cc e in ap (λ (p : Position). Token.Sign m.Colon p ∷ []) same
+colon_first _ us at e = absurd (cc e)
+
+pub end_some : (ts us : Tokens) (at : Position) → semicolon ts ≡ Some (at, us) → constants_end ts ≡ (take 1 ts, us)
+end_some (Token.Sign m.Semicolon c ∷ ts) us at e = let same : ts ≡ us = cc e in ap (λ (l : Tokens). (Token.Sign m.Semicolon c ∷ [], l)) same
+end_some _ us at e = absurd (cc e)
+
+pub end_none : (ts : Tokens) → semicolon ts ≡ None → constants_end ts ≡ ([], ts)
+end_none [] e = refl
+end_none (Token.Sign m.Semicolon c ∷ ts) e = absurd (cc e)
+end_none (_ ∷ ts) e = refl
+
+pub ruleset texts = (shown_nil, shown_cons, shown_append)
+
+pub ruleset labels = (colon_first)
+
+pub ruleset ends = (end_some, end_none)

@@ -1,0 +1,26 @@
+use Rattle.std.proofs.Common.{◌≡◌, ◌≤◌, ◌+◌, ◌-◌, length, sym, ◌∙◌, arith}
+use Rattle.java_fits.specs.Fits.{owner_seen}
+use Rattle.java_units.specs.Reading as r
+use Rattle.java_bodies.specs.Asks.{stop}
+use Rattle.java_bodies.proofs.Many.{stopped, ended, stuck, longer}
+use Rattle.java_bodies.proofs.grammar.Grammar.members.Goals as goal
+
+pub returns-then-stops : goal.returns-then-stops
+returns-then-stops g c = (stopped (stop c.args.until) ((r.readers c.args.self.now.steps).member c.args.depth (owner_seen c.args.owner)) _ _ _ _ c.loop-turn.invariant.same (sym c.stops.ensures ∙ c.if-stops.true), c.loop-turn.invariant.shorter)
+
+pub returns-in_default : goal.returns-in_default
+returns-in_default g c = stuck (stop c.args.until) ((r.readers c.args.self.now.steps).member c.args.depth (owner_seen c.args.owner)) _ _ _ _ c.loop-turn.invariant.same (sym c.stops.ensures ∙ c.if-stops.false) (rw c.in_default.is at c.in_ok-item.ensures)
+
+pub loop-turn-preserved : goal.loop-turn-preserved
+loop-turn-preserved g c =
+    let h = rw c.in-Some.is at c.in_ok-item.ensures in
+    record {
+      same = rw c.onward-pieces.ensures (longer (stop c.args.until) ((r.readers c.args.self.now.steps).member c.args.depth (owner_seen c.args.owner)) _ _ c.loop-turn._turn _ _ _ _ c.loop-turn-test.true c.loop-turn.invariant.same (sym c.stops.ensures ∙ c.if-stops.false) h.0);
+      shorter = rw c.onward-pieces.ensures (let k = h.1 in omega (arith, k));
+    }
+
+pub returns-then-stops-2 : goal.returns-then-stops-2
+returns-then-stops-2 g c = (stopped (stop c.args.until) ((r.readers c.args.self.now.steps).member c.args.depth (owner_seen c.args.owner)) _ _ _ _ c.loop-turn.invariant.same (sym c.stops-2.ensures ∙ c.if-stops-2.true), c.loop-turn.invariant.shorter)
+
+pub returns : goal.returns
+returns g c = ended (stop c.args.until) ((r.readers c.args.self.now.steps).member c.args.depth (owner_seen c.args.owner)) _ _ c.loop-turn._turn _ _ c.loop-turn-test.false c.loop-turn.invariant.same (sym c.stops-2.ensures ∙ c.if-stops-2.false)
