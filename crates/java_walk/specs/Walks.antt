@@ -1,8 +1,6 @@
 -- What forms do where they stand, and what a walk from run to run finds.
-use Rattle.std.specs.Prelude.{◌≡◌, ◌<◌, ◌^◌, ℕ, Bool, true, false, if◌then◌else◌, List, [], ◌∷◌, length, map, reverse, Option, Some, None, is_some, Result, IfOk}
+use Rattle.std.specs.Prelude.{◌≡◌, ℕ, Bool, true, false, if◌then◌else◌, List, [], ◌∷◌, map, reverse, Option, Some, None, is_some}
 use Rattle.std.specs.Borrow.{Bor}
-use Rattle.std.specs.declared.alloc.Global.{Global}
-use Rattle.j2k_base.specs.declared.errors.NoMemory.{NoMemory}
 use Rattle.java_tree.specs.declared.tokens.Mark.TheVariants as m
 use Rattle.java_tree.specs.Seen.{Token, Tokens}
 use Rattle.java_reading.specs.Reading.{◌>>=◌, whole, open_curly}
@@ -13,12 +11,9 @@ use Rattle.java_members.specs.Modifiers.{type_fits}
 use Rattle.java_members.specs.declared.heads.JTypeHead.{JTypeHead}
 use Rattle.java_members.specs.declared.heads.JTypeHead.TheVariants as kind
 use Rattle.java_units.specs.Standing.{Owner, steps}
-use Rattle.java_units.specs.Reading.{readers, constants_list}
+use Rattle.java_units.specs.Reading.{readers, close_curly, constants_list}
 use Rattle.java_runs.specs.Walk as w
-use Rattle.java_fits.specs.Fits.{owner_seen}
-use Rattle.java_forms.specs.Forms.{form_at, form_read, declared_form, bodied_form, constants_by}
-use Rattle.java_walk.specs.declared.forms.Ask.{Ask}
-use Rattle.java_walk.specs.declared.forms.Ask.TheVariants as a
+use Rattle.java_forms.specs.Forms.{form_at, form_read, constants_by}
 use Rattle.java_walk.specs.declared.states.Spot.{Spot}
 use Rattle.java_walk.specs.declared.states.Spot.TheVariants as s
 use Rattle.java_walk.specs.declared.states.Opened.{Opened}
@@ -133,16 +128,13 @@ abbrev pub room : w.Spot → ℕ
 room w.Spot.Constants = 1
 room _ = 0
 
--- whether tokens spell what is asked
-abbrev pub spells : Ask → Tokens → Bool
-spells (a.Declared x) text = is_some (declared_form (owner_seen x) text)
-spells (a.Bodied x) text = is_some (bodied_form (owner_seen x) text)
-spells a.Constants text = is_some (constants_list (readers steps) text >>= λ x. constants_by x)
+-- whether a `}` is all
+abbrev pub lone_end : Tokens → Bool
+lone_end ts = is_some (whole (close_curly ts))
 
--- A function value tells what tokens spell.
-pub record Spells (pre : Global → Ask → Bor (List Piece) → Type 0) (post : Global → Ask → Bor (List Piece) → Result Bool NoMemory → Type 0) : Type 0 where
-  pub callable : (alloc : Global) (ask : Ask) (ts : Bor (List Piece)) → length ts.now < 2 ^ 32 → pre alloc ask ts
-  pub tells : (alloc : Global) (ask : Ask) (ts : Bor (List Piece)) (x : Result Bool NoMemory) → post alloc ask ts x → IfOk x (λ b. b ≡ spells ask (shown ts.now))
+-- whether the tokens are the constants of an enum with a `}` behind them
+abbrev pub are_constants : Tokens → Bool
+are_constants ts = is_some (constants_list (readers steps) ts >>= λ x. constants_by x)
 
 -- ---- what a walk finds
 

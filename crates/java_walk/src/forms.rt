@@ -6,9 +6,10 @@ ghost use Rattle.java_pieces.specs.Shown.{shown};
 ghost use Rattle.java_parts.specs.Gives.{Gives, Always};
 ghost use Rattle.java_fits.specs.Fits.{owner_seen};
 ghost use Rattle.java_forms.specs.Forms as f;
-ghost use Rattle.java_walk.specs.Walks.{Spells, does, fitting, lone_curly, opened_of, is_enum, opened_seen, passed_at, room, same, spells, state_seen};
+ghost use Rattle.java_walk.specs.Walks.{does, fitting, lone_curly, opened_of, is_enum, opened_seen, passed_at, room, same, state_seen};
 ghost use Rattle.java_walk.specs.declared.states.Passed.TheVariants as p;
 
+use crate::members::{are_constants, is_bodied, is_declared};
 use crate::states::{Opened, Passed, Spot, State};
 use j2k_base::NoMemory;
 use java_cuts::{before_curly, goes_declared, goes_type, is_end, semicolon};
@@ -21,25 +22,6 @@ use std::alloc::Global;
 
 /// How deep types may be.
 const MAX_DEPTH: usize = 200;
-
-/// What pieces may spell.
-#[derive(Clone, Copy)]
-pub enum Ask<'a> {
-    /// A member of that owner with a `;` behind it.
-    Declared(Owner<'a>),
-    /// A member of that owner with a block behind it.
-    Bodied(Owner<'a>),
-    /// The constants of an enum with a `}` behind them.
-    Constants,
-}
-
-/// The reader of what runs spell.
-#[derive(Clone, Copy)]
-pub struct Walk<F> {
-    pub alloc: Global,
-    /// Whether pieces spell what is asked.
-    pub spells: F,
-}
 
 /// Whether a `{` is all.
 #[tactic(auto, using(crate::proofs::Doing::lone))]
@@ -197,105 +179,101 @@ impl Opened {
     }
 }
 
-impl<F: Fn(Global, Ask<'_>, Pieces<'_>) -> Result<bool, NoMemory>> Walk<F> {
-    /// The constants of an enum.
-    #[tactic(auto, using(crate::proofs::Doing::asks))]
-    fn constants_form<'a>(&self, text: Pieces<'a>) -> Result<Option<Passed>, NoMemory>
-        requires spells { Spells (F.pre self.now.spells) (F.post self.now.spells) }
-        requires size { length text.now + 1 < 2 ^ 32 }
-        ensures { Gives same Always (does (f.constants_form (shown text.now))) result }
-    {
-        let end = end_token();
-        let pieces = with_token(self.alloc, text, &end)?;
-        if (self.spells)(self.alloc, Ask::Constants, pieces.as_slice())? {
-            Ok(Some(Passed::Constants))
-        } else {
-            Ok(None)
-        }
+/// The constants of an enum.
+#[tactic(auto, using(crate::proofs::Doing::asks))]
+fn constants_form<'a>(alloc: Global, text: Pieces<'a>) -> Result<Option<Passed>, NoMemory>
+    requires { length text.now + 1 < 2 ^ 32 }
+    ensures { Gives same Always (does (f.constants_form (shown text.now))) result }
+{
+    let end = end_token();
+    let pieces = with_token(alloc, text, &end)?;
+    if are_constants(alloc, pieces.as_slice())? {
+        Ok(Some(Passed::Constants))
+    } else {
+        Ok(None)
     }
+}
 
-    /// A member with a `;` behind it.
-    #[tactic(auto, using(crate::proofs::Doing::asks))]
-    fn declared_form<'a>(
-        &self,
-        owner: Owner<'_>,
-        text: Pieces<'a>,
-    ) -> Result<Option<Passed>, NoMemory>
-        requires spells { Spells (F.pre self.now.spells) (F.post self.now.spells) }
-        requires size { length text.now < 2 ^ 32 }
-        ensures { Gives same Always (does (f.declared_form (owner_seen owner.entry) (shown text.now))) result }
-    {
-        if (self.spells)(self.alloc, Ask::Declared(owner), text)? {
-            Ok(Some(Passed::Member))
-        } else {
-            Ok(None)
-        }
+/// A member with a `;` behind it.
+#[tactic(auto, using(crate::proofs::Doing::asks))]
+fn declared_form<'a>(
+    alloc: Global,
+    owner: Owner<'_>,
+    text: Pieces<'a>,
+) -> Result<Option<Passed>, NoMemory>
+    requires { length text.now < 2 ^ 32 }
+    ensures { Gives same Always (does (f.declared_form (owner_seen owner.entry) (shown text.now))) result }
+{
+    if is_declared(alloc, owner, text)? {
+        Ok(Some(Passed::Member))
+    } else {
+        Ok(None)
     }
+}
 
-    /// A member with a block behind it.
-    #[tactic(auto, using(crate::proofs::Doing::asks))]
-    fn bodied_form<'a>(
-        &self,
-        owner: Owner<'_>,
-        text: Pieces<'a>,
-    ) -> Result<Option<Passed>, NoMemory>
-        requires spells { Spells (F.pre self.now.spells) (F.post self.now.spells) }
-        requires size { length text.now < 2 ^ 32 }
-        ensures { Gives same Always (does (f.bodied_form (owner_seen owner.entry) (shown text.now))) result }
-    {
-        if (self.spells)(self.alloc, Ask::Bodied(owner), text)? {
-            Ok(Some(Passed::Member))
-        } else {
-            Ok(None)
-        }
+/// A member with a block behind it.
+#[tactic(auto, using(crate::proofs::Doing::asks))]
+fn bodied_form<'a>(
+    alloc: Global,
+    owner: Owner<'_>,
+    text: Pieces<'a>,
+) -> Result<Option<Passed>, NoMemory>
+    requires { length text.now < 2 ^ 32 }
+    ensures { Gives same Always (does (f.bodied_form (owner_seen owner.entry) (shown text.now))) result }
+{
+    if is_bodied(alloc, owner, text)? {
+        Ok(Some(Passed::Member))
+    } else {
+        Ok(None)
     }
+}
 
-    /// A member, or the head of a type among members.
-    #[tactic(auto, using(crate::proofs::Doing::inside))]
-    fn inside_form<'a>(
-        &self,
-        owner: Owner<'_>,
-        text: Pieces<'a>,
-    ) -> Result<Option<Passed>, NoMemory>
-        requires spells { Spells (F.pre self.now.spells) (F.post self.now.spells) }
-        requires size { length text.now < 2 ^ 32 }
-        ensures { Gives same Always (does (f.inside_form (owner_seen owner.entry) (shown text.now))) result }
-    {
-        if goes_declared(text) {
-            return self.declared_form(owner, text);
-        }
-        if goes_type(text) {
-            return head_form(self.alloc, home_of(owner), text);
-        }
-        self.bodied_form(owner, text)
+/// A member, or the head of a type among members.
+#[tactic(auto, using(crate::proofs::Doing::inside))]
+fn inside_form<'a>(
+    alloc: Global,
+    owner: Owner<'_>,
+    text: Pieces<'a>,
+) -> Result<Option<Passed>, NoMemory>
+    requires { length text.now < 2 ^ 32 }
+    ensures { Gives same Always (does (f.inside_form (owner_seen owner.entry) (shown text.now))) result }
+{
+    if goes_declared(text) {
+        return declared_form(alloc, owner, text);
     }
-
-    /// In the body of a type.
-    #[tactic(auto, using(crate::proofs::Doing::around))]
-    fn member_form<'a>(&self, state: &State, text: Pieces<'a>) -> Result<Option<Passed>, NoMemory>
-        requires spells { Spells (F.pre self.now.spells) (F.post self.now.spells) }
-        requires size { length text.now < 2 ^ 32 }
-        ensures { Gives same Always (does (f.member_form (state_seen state.now).around (shown text.now))) result }
-    {
-        let Some((innermost, _)) = state.around.as_slice().split_last() else {
-            return Ok(None);
-        };
-        self.inside_form(innermost.owner(), text)
+    if goes_type(text) {
+        return head_form(alloc, home_of(owner), text);
     }
+    bodied_form(alloc, owner, text)
+}
 
-    /// What a run does.
-    #[tactic(auto, unfolding(crate::specs::Walks::passed_at))]
-    pub fn form<'a>(&self, state: &State, text: Pieces<'a>) -> Result<Option<Passed>, NoMemory>
-        requires spells { Spells (F.pre self.now.spells) (F.post self.now.spells) }
-        requires size { length text.now + room (state_seen state.now).spot < 2 ^ 32 }
-        ensures { Gives same Always (passed_at (state_seen state.now) (shown text.now)) result }
-    {
-        match state.spot {
-            Spot::Start => first_form(self.alloc, text),
-            Spot::Lines => line_form(self.alloc, text),
-            Spot::Top => top_form(self.alloc, text),
-            Spot::Constants => self.constants_form(text),
-            Spot::Member => self.member_form(state, text),
-        }
+/// In the body of a type.
+#[tactic(auto, using(crate::proofs::Doing::around))]
+fn member_form<'a>(
+    alloc: Global,
+    state: &State,
+    text: Pieces<'a>,
+) -> Result<Option<Passed>, NoMemory>
+    requires { length text.now < 2 ^ 32 }
+    ensures { Gives same Always (does (f.member_form (state_seen state.now).around (shown text.now))) result }
+{
+    let Some((innermost, _)) = state.around.as_slice().split_last() else {
+        return Ok(None);
+    };
+    inside_form(alloc, innermost.owner(), text)
+}
+
+/// What a run does.
+#[tactic(auto, unfolding(crate::specs::Walks::passed_at))]
+pub fn form<'a>(alloc: Global, state: &State, text: Pieces<'a>) -> Result<Option<Passed>, NoMemory>
+    requires { length text.now + room (state_seen state.now).spot < 2 ^ 32 }
+    ensures { Gives same Always (passed_at (state_seen state.now) (shown text.now)) result }
+{
+    match state.spot {
+        Spot::Start => first_form(alloc, text),
+        Spot::Lines => line_form(alloc, text),
+        Spot::Top => top_form(alloc, text),
+        Spot::Constants => constants_form(alloc, text),
+        Spot::Member => member_form(alloc, state, text),
     }
 }

@@ -2,7 +2,11 @@
 #![tactic(auto)]
 
 mod forms;
+mod members;
 mod states;
 mod walk;
 
-pub use forms::{Ask, Walk};
+pub use walk::first_fault;
+
+#[cfg(test)]
+mod tests;

@@ -4,9 +4,9 @@ ghost use Rattle.std.specs.Prelude.{◌≡◌, ◌<◌, ◌+◌, ◌^◌, length
 ghost use Rattle.java_pieces.specs.Shown.{shown};
 ghost use Rattle.java_tree.specs.Seen.{seen};
 ghost use Rattle.java_parts.specs.Gives.{Gives, Always};
-ghost use Rattle.java_walk.specs.Walks.{Spells, Walked, HasRest, closed, end_read, pass_read, passed_found, room, state_seen};
+ghost use Rattle.java_walk.specs.Walks.{Walked, HasRest, closed, end_read, pass_read, passed_found, room, state_seen};
 
-use crate::forms::{Ask, Walk};
+use crate::forms::form;
 use crate::states::{Passed, Spot, State};
 use j2k_base::NoMemory;
 use java_cuts::raw;
@@ -37,57 +37,52 @@ fn ended<'a>(state: &State, pieces: Pieces<'a>) -> Option<Pieces<'a>>
     }
 }
 
-impl<F: Fn(Global, Ask<'_>, Pieces<'_>) -> Result<bool, NoMemory>> Walk<F> {
-    /// What the run that begins the pieces does, and the pieces behind it.
-    #[tactic(auto, using(crate::proofs::Passing::reads))]
-    fn read<'a>(
-        &self,
-        state: &State,
-        pieces: Pieces<'a>,
-    ) -> Result<Option<(Passed, Pieces<'a>)>, NoMemory>
-        requires spells { Spells (F.pre self.now.spells) (F.post self.now.spells) }
-        requires size { length pieces.now + room (state_seen state.now).spot < 2 ^ 32 }
-        ensures { Gives passed_found Always (pass_read (state_seen state.now) (shown pieces.now)) result }
-    {
-        if let Some(rest) = ended(state, pieces) {
-            return Ok(Some((Passed::Ends, rest)));
-        }
-        let run = first_run(pieces);
-        let Some(passed) = self.form(state, run.text)? else {
-            return Ok(None);
+/// What the run that begins the pieces does, and the pieces behind it.
+#[tactic(auto, using(crate::proofs::Passing::reads))]
+fn read<'a>(
+    alloc: Global,
+    state: &State,
+    pieces: Pieces<'a>,
+) -> Result<Option<(Passed, Pieces<'a>)>, NoMemory>
+    requires { length pieces.now + room (state_seen state.now).spot < 2 ^ 32 }
+    ensures { Gives passed_found Always (pass_read (state_seen state.now) (shown pieces.now)) result }
+{
+    if let Some(rest) = ended(state, pieces) {
+        return Ok(Some((Passed::Ends, rest)));
+    }
+    let run = first_run(pieces);
+    let Some(passed) = form(alloc, state, run.text)? else {
+        return Ok(None);
+    };
+    Ok(Some((passed, run.rest)))
+}
+
+/// The number of the token that begins the first run which no form of its place spells; None where each run is
+/// spelled.
+#[tactic(auto, using(crate::proofs::Passing::walks))]
+fn first_unspelled<'a>(alloc: Global, pieces: Pieces<'a>) -> Result<Option<usize>, NoMemory>
+    requires { length pieces.now < 2 ^ 32 }
+    ensures { IfOk result (λ r. Walked (shown pieces.now) r) }
+{
+    let mut state = State::start(alloc);
+    let mut rest = pieces;
+    while !rest.is_empty() {
+        let Some((passed, behind)) = read(alloc, &state, rest)? else {
+            return Ok(Some(pieces.len() - rest.len()));
         };
-        Ok(Some((passed, run.rest)))
+        state.pass(passed)?;
+        rest = onward(behind);
     }
+    Ok(None)
+}
 
-    /// The number of the token that begins the first run which no form of its place spells; None where each run is
-    /// spelled.
-    #[tactic(auto, using(crate::proofs::Passing::walks))]
-    fn first_unspelled<'a>(&self, pieces: Pieces<'a>) -> Result<Option<usize>, NoMemory>
-        requires spells { Spells (F.pre self.now.spells) (F.post self.now.spells) }
-        requires size { length pieces.now < 2 ^ 32 }
-        ensures { IfOk result (λ r. Walked (shown pieces.now) r) }
-    {
-        let mut state = State::start(self.alloc);
-        let mut rest = pieces;
-        while !rest.is_empty() {
-            let Some((passed, behind)) = self.read(&state, rest)? else {
-                return Ok(Some(pieces.len() - rest.len()));
-            };
-            state.pass(passed)?;
-            rest = onward(behind);
-        }
-        Ok(None)
-    }
-
-    /// The number of the token of a file that begins the first run which no form of its place spells; None where each
-    /// run is spelled.
-    #[tactic(auto, using(crate::proofs::Passing::files))]
-    pub fn first_fault(&self, tokens: &[JToken]) -> Result<Option<usize>, NoMemory>
-        requires spells { Spells (F.pre self.now.spells) (F.post self.now.spells) }
-        requires size { length tokens.now < 2 ^ 32 }
-        ensures { IfOk result (λ r. Walked (seen tokens.now) r) }
-    {
-        let pieces = raw(self.alloc, tokens)?;
-        self.first_unspelled(pieces.as_slice())
-    }
+/// The number of the token of a file that begins the first run which no form of its place spells; None where each
+/// run is spelled.
+#[tactic(auto, using(crate::proofs::Passing::files))]
+pub fn first_fault(alloc: Global, tokens: &[JToken]) -> Result<Option<usize>, NoMemory>
+    requires { length tokens.now < 2 ^ 32 }
+    ensures { IfOk result (λ r. Walked (seen tokens.now) r) }
+{
+    let pieces = raw(alloc, tokens)?;
+    first_unspelled(alloc, pieces.as_slice())
 }
