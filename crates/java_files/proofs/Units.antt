@@ -1,9 +1,13 @@
 -- What a file declares.
-use Rattle.std.proofs.Common.{◌≡◌, ℕ, List, [], ◌∷◌, true, false, IfOk, Option, Some, None, Result, Ok, Err, refl, sym, ap}
+use Rattle.std.proofs.Common.{◌≡◌, ◌<◌, ◌^◌, suc, List, [], ◌∷◌, length, true, false, IfOk, Option, Some, None, Result, Ok, Err, refl, sym, ap, arith}
 use Rattle.j2k_base.specs.declared.errors.NoMemory.{NoMemory}
-use Rattle.java_tree.specs.Seen.{Tokens}
+use Rattle.java_tree.specs.declared.tokens.JToken.{JToken}
+use Rattle.java_tree.specs.Seen.{Tokens, seen}
 use Rattle.java_reading.specs.Reading.{whole}
+use Rattle.java_pieces.specs.declared.piece.Piece.{Piece}
+use Rattle.java_pieces.specs.Shown.{shown}
 use Rattle.java_parts.specs.Gives.{Gives, Always}
+use Rattle.java_parts.proofs.Rules.{length_shown}
 use Rattle.java_units.specs.Reading as r
 use Rattle.java_files.specs.declared.files.Declared.{Declared}
 use Rattle.java_files.specs.Files.{declared_seen, one_seen}
@@ -20,6 +24,18 @@ pub given : (o : Option r.Declared) (x : Result (Option Declared) NoMemory) → 
 given o (Err e) g = tt
 given o (Ok None) g = sym g
 given o (Ok (Some x)) g = sym g.0
+
+seen_length : (ts : List JToken) → length (seen ts) ≡ length ts
+unfolding seen
+seen_length [] = refl
+seen_length (t ∷ ts) = ap suc (seen_length ts)
+
+pub as_few : (ts : List JToken) (xs : List Piece) → length ts < 2 ^ 32 → shown xs ≡ seen ts → length xs < 2 ^ 32
+as_few ts xs h e =
+    let a = ap length e in
+    let b = length_shown xs in
+    let c = seen_length ts in
+    omega (arith, a, b, c, h)
 
 pub ruleset ends = (whole_ends, whole_goes_on)
 

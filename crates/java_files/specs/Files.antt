@@ -24,7 +24,7 @@ Takes ts read (Some x) = (read ≡ Some (x.0, shown x.1.now)) × (length x.1.now
 abbrev pub inside_found : Inside × Bor (List Piece) → r.Inside × Tokens
 inside_found x = (record { constants = x.0.constants; bodies = x.0.bodies; members = x.0.members }, shown x.1.now)
 
--- A function value reads members in which fewer than n types stand in each other.
+-- A function value reads members of which at most n stand in each other.
 pub record Nests (n : ℕ) (pre : Global → Bor (List Piece) → Owner → ℕ → Type 0)
     (post : Global → Bor (List Piece) → Owner → ℕ → Result (Option (JMember × Bor (List Piece))) NoMemory → Type 0) : Type 0 where
   pub callable : (alloc : Global) (ts : Bor (List Piece)) (owner : Owner) → length ts.now < 2 ^ 32 → pre alloc ts owner n

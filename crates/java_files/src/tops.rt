@@ -35,13 +35,15 @@ pub struct Inside {
 #[derive(Clone, Copy)]
 pub struct Tops<F> {
     pub alloc: Global,
-    /// How many types may stand in each other in a member.
+    /// How many members may stand in each other.
     pub types: usize,
-    /// Reads a member: the pieces, whose it is, and how many types may stand in each other in it.
+    /// Reads a member: the pieces, whose it is, and how many may stand in each other.
     pub read: F,
 }
 
-impl<F: for<'a, 'b> Fn(Global, Pieces<'a>, Owner<'b>, usize) -> Answer<'a, Boxed<JMember>>> Tops<F> {
+impl<F: for<'a, 'b> Fn(Global, Pieces<'a>, Owner<'b>, usize) -> Answer<'a, Boxed<JMember>>> Tops<
+    F,
+> {
     fn member<'a, 'b>(&self, pieces: Pieces<'a>, owner: Owner<'b>) -> Answer<'a, Boxed<JMember>>
         requires nests { Nests self.now.types (F.pre self.now.read) (F.post self.now.read) }
         requires size { length pieces.now < 2 ^ 32 }
@@ -199,8 +201,8 @@ impl<F: for<'a, 'b> Fn(Global, Pieces<'a>, Owner<'b>, usize) -> Answer<'a, Boxed
     }
 }
 
-/// A member of a type that stands in no expression, in which fewer types than `types` stand in each
-/// other, and the pieces after it.
+/// A member that stands in no expression, where at most `types` members stand in each other, and the
+/// pieces after it.
 pub fn top<'a, 'b>(
     alloc: Global,
     pieces: Pieces<'a>,

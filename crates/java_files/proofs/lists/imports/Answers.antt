@@ -1,4 +1,4 @@
-use Rattle.std.proofs.Common.{◌≡◌, ◌≤◌, ◌+◌, ◌-◌, length, sym, ◌∙◌, arith}
+use Rattle.std.proofs.Common.{sym, ◌∙◌, arith}
 use Rattle.java_units.specs.Reading as r
 use Rattle.java_bodies.proofs.Many.{stopped, ended, stuck, longer}
 use Rattle.java_files.proofs.lists.imports.Goals as goal

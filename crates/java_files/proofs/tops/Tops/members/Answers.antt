@@ -1,4 +1,4 @@
-use Rattle.std.proofs.Common.{◌≡◌, ◌≤◌, ◌+◌, ◌-◌, length, sym, ◌∙◌, arith}
+use Rattle.std.proofs.Common.{sym, ◌∙◌, arith}
 use Rattle.java_fits.specs.Fits.{owner_seen}
 use Rattle.java_units.specs.Reading as r
 use Rattle.java_bodies.proofs.Many.{stopped, ended, stuck, longer}
@@ -14,7 +14,7 @@ pub loop-turn-preserved : goal.loop-turn-preserved
 loop-turn-preserved g c =
     let h = rw c.in-Some.is at c.in_ok-item.ensures in
     record {
-      same = rw c.onward-pieces.ensures (rw c.in_ok-push.ensures.ok (longer r.begins_close (r.tops c.args.self.now.types (owner_seen c.args.owner)) _ _ c.loop-turn._turn _ _ _ _ c.loop-turn-test.true c.loop-turn.invariant.same (sym c.begins_close.ensures ∙ c.if-begins_close.false) h.0));
+      same = rw c.onward-pieces.ensures (rw c.in_ok-push.ensures.ok (rw c.into_inner.ensures (longer r.begins_close (r.tops c.args.self.now.types (owner_seen c.args.owner)) _ _ c.loop-turn._turn _ _ _ _ c.loop-turn-test.true c.loop-turn.invariant.same (sym c.begins_close.ensures ∙ c.if-begins_close.false) h.0)));
       shorter = rw c.onward-pieces.ensures (let k = h.1 in omega (arith, k));
     }
 
