@@ -32,10 +32,7 @@ fn behind(
 
 impl<F: for<'a, 'b> Fn(Global, Pieces<'a>, Ask<'b>, usize, usize) -> Answer<'a, Part>> Grammar<F> {
     /// A statement that is the part of another.
-    pub fn sole<'a>(
-        &self,
-        pieces: Pieces<'a>,
-    ) -> Answer<'a, Boxed<JStatement>>
+    pub fn sole<'a>(&self, pieces: Pieces<'a>) -> Answer<'a, Boxed<JStatement>>
         requires nests { Nests self.now.depth self.now.steps (F.pre self.now.read) (F.post self.now.read) }
         requires size { length pieces.now < 2 ^ 32 }
         ensures { Gives found (Shorter pieces.now) (r.sole (r.readers self.now.steps) self.now.depth (shown pieces.now)) result }
@@ -69,11 +66,7 @@ impl<F: for<'a, 'b> Fn(Global, Pieces<'a>, Ask<'b>, usize, usize) -> Answer<'a, 
 
     /// A block no deeper than `depth`.
     #[tactic(auto, using(crate::proofs::Steps::blocks))]
-    pub fn block<'a>(
-        &self,
-        pieces: Pieces<'a>,
-        depth: usize,
-    ) -> Answer<'a, Braced<JStatement>>
+    pub fn block<'a>(&self, pieces: Pieces<'a>, depth: usize) -> Answer<'a, Braced<JStatement>>
         requires nests { Nests self.now.depth self.now.steps (F.pre self.now.read) (F.post self.now.read) }
         requires size { length pieces.now < 2 ^ 32 }
         requires room { depth + self.now.steps ≤ 1000 }
@@ -87,11 +80,7 @@ impl<F: for<'a, 'b> Fn(Global, Pieces<'a>, Ask<'b>, usize, usize) -> Answer<'a, 
 
     /// The statements of a constructor as far as the `}`.
     #[tactic(auto, unfolding(java_units::specs::Reading::first_list))]
-    fn first_list<'a>(
-        &self,
-        pieces: Pieces<'a>,
-        depth: usize,
-    ) -> Answer<'a, Items<JStatement>>
+    fn first_list<'a>(&self, pieces: Pieces<'a>, depth: usize) -> Answer<'a, Items<JStatement>>
         requires nests { Nests self.now.depth self.now.steps (F.pre self.now.read) (F.post self.now.read) }
         requires size { length pieces.now < 2 ^ 32 }
         requires room { depth + self.now.steps ≤ 1000 }
@@ -111,11 +100,7 @@ impl<F: for<'a, 'b> Fn(Global, Pieces<'a>, Ask<'b>, usize, usize) -> Answer<'a, 
     }
 
     #[tactic(auto, unfolding(java_units::specs::Reading::braced))]
-    fn first_braces<'a>(
-        &self,
-        pieces: Pieces<'a>,
-        depth: usize,
-    ) -> Answer<'a, Braced<JStatement>>
+    fn first_braces<'a>(&self, pieces: Pieces<'a>, depth: usize) -> Answer<'a, Braced<JStatement>>
         requires nests { Nests self.now.depth self.now.steps (F.pre self.now.read) (F.post self.now.read) }
         requires size { length pieces.now < 2 ^ 32 }
         requires room { depth + self.now.steps ≤ 1000 }

@@ -29,10 +29,7 @@ fn none_of<'a>(pieces: Pieces<'a>) -> Pieces<'a>
 impl<F: for<'a, 'b> Fn(Global, Pieces<'a>, Ask<'b>, usize, usize) -> Answer<'a, Part>> Grammar<F> {
     /// The statements that all of the pieces are.
     #[tactic(auto, using(java_clauses::proofs::Rules::ends), unfolding(java_units::specs::Reading::body_step))]
-    fn block_body<'a>(
-        &self,
-        pieces: Pieces<'a>,
-    ) -> Result<Option<Boxed<JBody>>, NoMemory>
+    fn block_body<'a>(&self, pieces: Pieces<'a>) -> Result<Option<Boxed<JBody>>, NoMemory>
         requires nests { Nests self.now.depth self.now.steps (F.pre self.now.read) (F.post self.now.read) }
         requires size { length pieces.now < 2 ^ 32 }
         ensures { Gives same Always (r.body_step (r.readers self.now.steps) self.now.depth true (shown pieces.now)) result }
@@ -48,15 +45,18 @@ impl<F: for<'a, 'b> Fn(Global, Pieces<'a>, Ask<'b>, usize, usize) -> Answer<'a, 
 
     /// The members that all of the pieces are.
     #[tactic(auto, using(java_clauses::proofs::Rules::ends), unfolding(java_units::specs::Reading::body_step))]
-    fn class_body<'a>(
-        &self,
-        pieces: Pieces<'a>,
-    ) -> Result<Option<Boxed<JBody>>, NoMemory>
+    fn class_body<'a>(&self, pieces: Pieces<'a>) -> Result<Option<Boxed<JBody>>, NoMemory>
         requires nests { Nests self.now.depth self.now.steps (F.pre self.now.read) (F.post self.now.read) }
         requires size { length pieces.now < 2 ^ 32 }
         ensures { Gives same Always (r.body_step (r.readers self.now.steps) self.now.depth false (shown pieces.now)) result }
     {
-        let Some((items, rest)) = self.members(pieces, Until::End, Owner::Class(None), self.depth + 1)? else {
+        let Some((items, rest)) = self.members(
+            pieces,
+            Until::End,
+            Owner::Class(None),
+            self.depth + 1,
+        )?
+        else {
             return Ok(None);
         };
         if !is_end(rest) {
@@ -65,11 +65,7 @@ impl<F: for<'a, 'b> Fn(Global, Pieces<'a>, Ask<'b>, usize, usize) -> Answer<'a, 
         Ok(Some(Boxed::new(self.alloc, JBody::Members(items))?))
     }
 
-    fn body_part<'a>(
-        &self,
-        pieces: Pieces<'a>,
-        is_block: bool,
-    ) -> Answer<'a, Part>
+    fn body_part<'a>(&self, pieces: Pieces<'a>, is_block: bool) -> Answer<'a, Part>
         requires nests { Nests self.now.depth self.now.steps (F.pre self.now.read) (F.post self.now.read) }
         requires size { length pieces.now < 2 ^ 32 }
         ensures { Gives part_found (Shorter pieces.now) (stepped (r.readers self.now.steps) self.now.depth (ask.Body is_block) (shown pieces.now)) result }
@@ -85,10 +81,7 @@ impl<F: for<'a, 'b> Fn(Global, Pieces<'a>, Ask<'b>, usize, usize) -> Answer<'a, 
         Ok(Some((Part::Body(body), none_of(pieces))))
     }
 
-    fn label_part<'a>(
-        &self,
-        pieces: Pieces<'a>,
-    ) -> Answer<'a, Part>
+    fn label_part<'a>(&self, pieces: Pieces<'a>) -> Answer<'a, Part>
         requires nests { Nests self.now.depth self.now.steps (F.pre self.now.read) (F.post self.now.read) }
         requires size { length pieces.now < 2 ^ 32 }
         ensures { Gives part_found (Shorter pieces.now) (stepped (r.readers self.now.steps) self.now.depth ask.Label (shown pieces.now)) result }
@@ -99,11 +92,7 @@ impl<F: for<'a, 'b> Fn(Global, Pieces<'a>, Ask<'b>, usize, usize) -> Answer<'a, 
         Ok(Some((Part::Label(label), rest)))
     }
 
-    fn statement_part<'a>(
-        &self,
-        pieces: Pieces<'a>,
-        role: Role,
-    ) -> Answer<'a, Part>
+    fn statement_part<'a>(&self, pieces: Pieces<'a>, role: Role) -> Answer<'a, Part>
         requires nests { Nests self.now.depth self.now.steps (F.pre self.now.read) (F.post self.now.read) }
         requires size { length pieces.now < 2 ^ 32 }
         ensures { Gives part_found (Shorter pieces.now) (stepped (r.readers self.now.steps) self.now.depth (ask.Statement role) (shown pieces.now)) result }
@@ -114,11 +103,7 @@ impl<F: for<'a, 'b> Fn(Global, Pieces<'a>, Ask<'b>, usize, usize) -> Answer<'a, 
         Ok(Some((Part::Statement(statement), rest)))
     }
 
-    fn member_part<'a, 'b>(
-        &self,
-        pieces: Pieces<'a>,
-        owner: Owner<'b>,
-    ) -> Answer<'a, Part>
+    fn member_part<'a, 'b>(&self, pieces: Pieces<'a>, owner: Owner<'b>) -> Answer<'a, Part>
         requires nests { Nests self.now.depth self.now.steps (F.pre self.now.read) (F.post self.now.read) }
         requires size { length pieces.now < 2 ^ 32 }
         ensures { Gives part_found (Shorter pieces.now) (stepped (r.readers self.now.steps) self.now.depth (ask.Member owner.entry) (shown pieces.now)) result }
@@ -130,11 +115,7 @@ impl<F: for<'a, 'b> Fn(Global, Pieces<'a>, Ask<'b>, usize, usize) -> Answer<'a, 
     }
 
     /// What is asked for.
-    pub fn step<'a, 'b>(
-        &self,
-        pieces: Pieces<'a>,
-        ask: Ask<'b>,
-    ) -> Answer<'a, Part>
+    pub fn step<'a, 'b>(&self, pieces: Pieces<'a>, ask: Ask<'b>) -> Answer<'a, Part>
         requires nests { Nests self.now.depth self.now.steps (F.pre self.now.read) (F.post self.now.read) }
         requires size { length pieces.now < 2 ^ 32 }
         ensures { Gives part_found (Shorter pieces.now) (stepped (r.readers self.now.steps) self.now.depth ask.entry (shown pieces.now)) result }

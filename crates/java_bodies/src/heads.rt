@@ -38,7 +38,10 @@ fn room(depth: usize, level: usize) -> usize
 }
 
 /// The first of the levels and the first of the kinds, and those behind them.
-fn parted<'a>(levels: &'a [usize], kinds: &'a [bool]) -> Option<((usize, bool), (&'a [usize], &'a [bool]))>
+fn parted<'a>(
+    levels: &'a [usize],
+    kinds: &'a [bool],
+) -> Option<((usize, bool), (&'a [usize], &'a [bool]))>
     ensures { parted_levels result ≡ next_level levels.now kinds.now }
 {
     let (level, levels) = levels.split_first()?;
@@ -154,7 +157,12 @@ impl<F: for<'a, 'b> Fn(Global, Pieces<'a>, Ask<'b>, usize, usize) -> Answer<'a, 
         let head = Boxed::new(self.alloc, head)?;
         let levels = java_levels::simple(self.alloc, head.get())?;
         let texts = cut.bodies.as_slice();
-        let Some(bodies) = self.bodies_of(cut.text.as_slice(), levels.as_slice(), texts, self.depth)?
+        let Some(bodies) = self.bodies_of(
+            cut.text.as_slice(),
+            levels.as_slice(),
+            texts,
+            self.depth,
+        )?
         else {
             return Ok(None);
         };
@@ -176,7 +184,12 @@ impl<F: for<'a, 'b> Fn(Global, Pieces<'a>, Ask<'b>, usize, usize) -> Answer<'a, 
         let head = Boxed::new(self.alloc, head)?;
         let levels = java_levels::for_head(self.alloc, head.get())?;
         let texts = cut.bodies.as_slice();
-        let Some(bodies) = self.bodies_of(cut.text.as_slice(), levels.as_slice(), texts, self.depth)?
+        let Some(bodies) = self.bodies_of(
+            cut.text.as_slice(),
+            levels.as_slice(),
+            texts,
+            self.depth,
+        )?
         else {
             return Ok(None);
         };
@@ -198,7 +211,12 @@ impl<F: for<'a, 'b> Fn(Global, Pieces<'a>, Ask<'b>, usize, usize) -> Answer<'a, 
         let head = Boxed::new(self.alloc, head)?;
         let levels = java_levels::lock(self.alloc, head.get())?;
         let texts = cut.bodies.as_slice();
-        let Some(bodies) = self.bodies_of(cut.text.as_slice(), levels.as_slice(), texts, self.depth)?
+        let Some(bodies) = self.bodies_of(
+            cut.text.as_slice(),
+            levels.as_slice(),
+            texts,
+            self.depth,
+        )?
         else {
             return Ok(None);
         };
@@ -219,7 +237,12 @@ impl<F: for<'a, 'b> Fn(Global, Pieces<'a>, Ask<'b>, usize, usize) -> Answer<'a, 
         };
         let levels = java_levels::condition(self.alloc, head.get())?;
         let texts = cut.bodies.as_slice();
-        let Some(bodies) = self.bodies_of(cut.text.as_slice(), levels.as_slice(), texts, self.depth)?
+        let Some(bodies) = self.bodies_of(
+            cut.text.as_slice(),
+            levels.as_slice(),
+            texts,
+            self.depth,
+        )?
         else {
             return Ok(None);
         };

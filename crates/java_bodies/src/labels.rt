@@ -33,10 +33,7 @@ pub fn with_first<'a>(text: Vec<Piece<'a>>, pieces: Pieces<'a>) -> Result<Vec<Pi
 impl<F: for<'a, 'b> Fn(Global, Pieces<'a>, Ask<'b>, usize, usize) -> Answer<'a, Part>> Grammar<F> {
     /// A label with the bodies of its value.
     #[tactic(auto, using(crate::proofs::Texts::labels), unfolding(java_units::specs::Reading::label_step))]
-    pub fn label_step<'a>(
-        &self,
-        pieces: Pieces<'a>,
-    ) -> Answer<'a, Boxed<JCase>>
+    pub fn label_step<'a>(&self, pieces: Pieces<'a>) -> Answer<'a, Boxed<JCase>>
         requires nests { Nests self.now.depth self.now.steps (F.pre self.now.read) (F.post self.now.read) }
         requires size { length pieces.now < 2 ^ 32 }
         ensures { Gives found (Shorter pieces.now) (r.label_step (r.readers self.now.steps) self.now.depth (shown pieces.now)) result }
@@ -56,7 +53,8 @@ impl<F: for<'a, 'b> Fn(Global, Pieces<'a>, Ask<'b>, usize, usize) -> Answer<'a, 
         let label = Boxed::new(self.alloc, label)?;
         let levels = java_levels::label(self.alloc, label.get())?;
         let texts = bodies.as_slice();
-        let Some(bodies) = self.bodies(levels.as_slice(), kinds.as_slice(), texts, self.depth)? else {
+        let Some(bodies) = self.bodies(levels.as_slice(), kinds.as_slice(), texts, self.depth)?
+        else {
             return Ok(None);
         };
         let label = label.into_inner();

@@ -18,8 +18,6 @@ use java_units::{JCase, JMember, JStatement};
 use sqlite_items::Items;
 use std::alloc::Global;
 
-
-
 impl<F: for<'a, 'b> Fn(Global, Pieces<'a>, Ask<'b>, usize, usize) -> Answer<'a, Part>> Grammar<F> {
     /// Statements, each no deeper than `depth`.
     #[tactic(auto, using(java_parts::proofs::Rules::length_shown))]
@@ -86,10 +84,7 @@ impl<F: for<'a, 'b> Fn(Global, Pieces<'a>, Ask<'b>, usize, usize) -> Answer<'a, 
 
     /// Labels of a switch, as many as there are.
     #[tactic(auto, using(java_parts::proofs::Rules::length_shown))]
-    pub fn labels<'a>(
-        &self,
-        mut pieces: Pieces<'a>,
-    ) -> Answer<'a, Items<JCase>>
+    pub fn labels<'a>(&self, mut pieces: Pieces<'a>) -> Answer<'a, Items<JCase>>
         requires nests { Nests self.now.depth self.now.steps (F.pre self.now.read) (F.post self.now.read) }
         requires size { length pieces.now < 2 ^ 32 }
         ensures { Gives found (Shorter pieces.entry.now) (r.until r.no_case ((r.readers self.now.steps).label self.now.depth) (shown pieces.entry.now)) result }

@@ -60,13 +60,25 @@ impl<F: for<'a, 'b> Fn(Global, Pieces<'a>, Ask<'b>, usize, usize) -> Answer<'a, 
         let Some(cut) = cut_off(self.alloc, Stop::Semicolon, pieces)? else {
             return Ok(None);
         };
-        let Some(head) = before_semicolon(self.alloc, cut.text.as_slice(), depths.types, depths.values)? else {
+        let Some(head) = before_semicolon(
+            self.alloc,
+            cut.text.as_slice(),
+            depths.types,
+            depths.values,
+        )?
+        else {
             return Ok(None);
         };
         let head = Boxed::new(self.alloc, head)?;
         let levels = member_levels(self.alloc, head.get(), depths.is_top)?;
         let texts = cut.bodies.as_slice();
-        let Some(bodies) = self.bodies_of(cut.text.as_slice(), levels.as_slice(), texts, depths.holder)? else {
+        let Some(bodies) = self.bodies_of(
+            cut.text.as_slice(),
+            levels.as_slice(),
+            texts,
+            depths.holder,
+        )?
+        else {
             return Ok(None);
         };
         Ok(Some(((head, bodies), cut.rest)))
@@ -135,7 +147,12 @@ impl<F: for<'a, 'b> Fn(Global, Pieces<'a>, Ask<'b>, usize, usize) -> Answer<'a, 
             return Ok(None);
         };
         let head = Boxed::new(self.alloc, head)?;
-        let Some(((left, items, right), rest)) = self.member_block(head.get(), behind, depths.holder)? else {
+        let Some(((left, items, right), rest)) = self.member_block(
+            head.get(),
+            behind,
+            depths.holder,
+        )?
+        else {
             return Ok(None);
         };
         if !member_fits(owner, true, head.get()) {

@@ -22,11 +22,7 @@ use std::alloc::Global;
 impl<F: for<'a, 'b> Fn(Global, Pieces<'a>, Ask<'b>, usize, usize) -> Answer<'a, Part>> Grammar<F> {
     /// A simple statement and its `;`.
     #[tactic(auto, unfolding(java_units::specs::Reading::simple))]
-    fn simple<'a>(
-        &self,
-        role: Role,
-        pieces: Pieces<'a>,
-    ) -> Answer<'a, Boxed<JStatement>>
+    fn simple<'a>(&self, role: Role, pieces: Pieces<'a>) -> Answer<'a, Boxed<JStatement>>
         requires nests { Nests self.now.depth self.now.steps (F.pre self.now.read) (F.post self.now.read) }
         requires size { length pieces.now < 2 ^ 32 }
         ensures { Gives found (Shorter pieces.now) (r.simple (r.readers self.now.steps) self.now.depth (role_seen role) (shown pieces.now)) result }
@@ -40,15 +36,15 @@ impl<F: for<'a, 'b> Fn(Global, Pieces<'a>, Ask<'b>, usize, usize) -> Answer<'a, 
         if !may_stand(role, head.get()) {
             return Ok(None);
         }
-        let tree = Boxed::new(self.alloc, JStatement::Simple(head.into_inner(), bodies, end))?;
+        let tree = Boxed::new(
+            self.alloc,
+            JStatement::Simple(head.into_inner(), bodies, end),
+        )?;
         Ok(Some((tree, rest)))
     }
 
     #[tactic(auto, unfolding(java_units::specs::Reading::block_statement))]
-    fn block_statement<'a>(
-        &self,
-        pieces: Pieces<'a>,
-    ) -> Answer<'a, Boxed<JStatement>>
+    fn block_statement<'a>(&self, pieces: Pieces<'a>) -> Answer<'a, Boxed<JStatement>>
         requires nests { Nests self.now.depth self.now.steps (F.pre self.now.read) (F.post self.now.read) }
         requires size { length pieces.now < 2 ^ 32 }
         ensures { Gives found (Shorter pieces.now) (r.block_statement (r.readers self.now.steps) self.now.depth (shown pieces.now)) result }
@@ -128,11 +124,7 @@ impl<F: for<'a, 'b> Fn(Global, Pieces<'a>, Ask<'b>, usize, usize) -> Answer<'a, 
 
     /// Behind `if`.
     #[tactic(auto, unfolding(java_units::specs::Reading::if_read))]
-    fn if_read<'a>(
-        &self,
-        at: Position,
-        pieces: Pieces<'a>,
-    ) -> Answer<'a, Boxed<JStatement>>
+    fn if_read<'a>(&self, at: Position, pieces: Pieces<'a>) -> Answer<'a, Boxed<JStatement>>
         requires nests { Nests self.now.depth self.now.steps (F.pre self.now.read) (F.post self.now.read) }
         requires size { length pieces.now < 2 ^ 32 }
         ensures { Gives found (Shorter pieces.now) (r.if_read (r.readers self.now.steps) self.now.depth at (shown pieces.now)) result }
@@ -148,11 +140,7 @@ impl<F: for<'a, 'b> Fn(Global, Pieces<'a>, Ask<'b>, usize, usize) -> Answer<'a, 
 
     /// Behind `while`.
     #[tactic(auto, unfolding(java_units::specs::Reading::while_read))]
-    fn while_read<'a>(
-        &self,
-        at: Position,
-        pieces: Pieces<'a>,
-    ) -> Answer<'a, Boxed<JStatement>>
+    fn while_read<'a>(&self, at: Position, pieces: Pieces<'a>) -> Answer<'a, Boxed<JStatement>>
         requires nests { Nests self.now.depth self.now.steps (F.pre self.now.read) (F.post self.now.read) }
         requires size { length pieces.now < 2 ^ 32 }
         ensures { Gives found (Shorter pieces.now) (r.while_read (r.readers self.now.steps) self.now.depth at (shown pieces.now)) result }
@@ -171,11 +159,7 @@ impl<F: for<'a, 'b> Fn(Global, Pieces<'a>, Ask<'b>, usize, usize) -> Answer<'a, 
 
     /// Behind `do`.
     #[tactic(auto, unfolding(java_units::specs::Reading::do_read))]
-    fn do_read<'a>(
-        &self,
-        at: Position,
-        pieces: Pieces<'a>,
-    ) -> Answer<'a, Boxed<JStatement>>
+    fn do_read<'a>(&self, at: Position, pieces: Pieces<'a>) -> Answer<'a, Boxed<JStatement>>
         requires nests { Nests self.now.depth self.now.steps (F.pre self.now.read) (F.post self.now.read) }
         requires size { length pieces.now < 2 ^ 32 }
         ensures { Gives found (Shorter pieces.now) (r.do_read (r.readers self.now.steps) self.now.depth at (shown pieces.now)) result }
@@ -201,11 +185,7 @@ impl<F: for<'a, 'b> Fn(Global, Pieces<'a>, Ask<'b>, usize, usize) -> Answer<'a, 
 
     /// Behind `for`.
     #[tactic(auto, unfolding(java_units::specs::Reading::loop_read))]
-    fn loop_read<'a>(
-        &self,
-        at: Position,
-        pieces: Pieces<'a>,
-    ) -> Answer<'a, Boxed<JStatement>>
+    fn loop_read<'a>(&self, at: Position, pieces: Pieces<'a>) -> Answer<'a, Boxed<JStatement>>
         requires nests { Nests self.now.depth self.now.steps (F.pre self.now.read) (F.post self.now.read) }
         requires size { length pieces.now < 2 ^ 32 }
         ensures { Gives found (Shorter pieces.now) (r.loop_read (r.readers self.now.steps) self.now.depth at (shown pieces.now)) result }
@@ -224,11 +204,7 @@ impl<F: for<'a, 'b> Fn(Global, Pieces<'a>, Ask<'b>, usize, usize) -> Answer<'a, 
 
     /// Behind `synchronized`.
     #[tactic(auto, unfolding(java_units::specs::Reading::synchronized))]
-    fn synchronized<'a>(
-        &self,
-        at: Position,
-        pieces: Pieces<'a>,
-    ) -> Answer<'a, Boxed<JStatement>>
+    fn synchronized<'a>(&self, at: Position, pieces: Pieces<'a>) -> Answer<'a, Boxed<JStatement>>
         requires nests { Nests self.now.depth self.now.steps (F.pre self.now.read) (F.post self.now.read) }
         requires size { length pieces.now < 2 ^ 32 }
         ensures { Gives found (Shorter pieces.now) (r.synchronized (r.readers self.now.steps) self.now.depth at (shown pieces.now)) result }

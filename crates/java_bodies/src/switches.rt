@@ -19,10 +19,7 @@ use std::alloc::Global;
 impl<F: for<'a, 'b> Fn(Global, Pieces<'a>, Ask<'b>, usize, usize) -> Answer<'a, Part>> Grammar<F> {
     /// Labels and the statements behind them.
     #[tactic(auto, unfolding(java_units::specs::Reading::group_read))]
-    fn group<'a>(
-        &self,
-        pieces: Pieces<'a>,
-    ) -> Answer<'a, Boxed<JCaseGroup>>
+    fn group<'a>(&self, pieces: Pieces<'a>) -> Answer<'a, Boxed<JCaseGroup>>
         requires nests { Nests self.now.depth self.now.steps (F.pre self.now.read) (F.post self.now.read) }
         requires size { length pieces.now < 2 ^ 32 }
         ensures { Gives found (Shorter pieces.now) (r.group_read (r.readers self.now.steps) self.now.depth (shown pieces.now)) result }
@@ -67,10 +64,7 @@ impl<F: for<'a, 'b> Fn(Global, Pieces<'a>, Ask<'b>, usize, usize) -> Answer<'a, 
 
     /// Groups in braces.
     #[tactic(auto, unfolding(java_units::specs::Reading::braced))]
-    fn group_braces<'a>(
-        &self,
-        pieces: Pieces<'a>,
-    ) -> Answer<'a, Braced<JCaseGroup>>
+    fn group_braces<'a>(&self, pieces: Pieces<'a>) -> Answer<'a, Braced<JCaseGroup>>
         requires nests { Nests self.now.depth self.now.steps (F.pre self.now.read) (F.post self.now.read) }
         requires size { length pieces.now < 2 ^ 32 }
         ensures { Gives braced_found (Shorter pieces.now) (r.braced (r.until r.begins_close (r.group_read (r.readers self.now.steps) self.now.depth)) (shown pieces.now)) result }

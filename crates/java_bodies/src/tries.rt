@@ -68,10 +68,7 @@ fn caught<'a>(alloc: Global, pieces: Pieces<'a>, depth: usize) -> Answer<'a, JTy
 impl<F: for<'a, 'b> Fn(Global, Pieces<'a>, Ask<'b>, usize, usize) -> Answer<'a, Part>> Grammar<F> {
     /// `catch` and what is caught.
     #[tactic(auto, unfolding(java_units::specs::Reading::catch_read))]
-    fn catch_read<'a>(
-        &self,
-        pieces: Pieces<'a>,
-    ) -> Answer<'a, Boxed<JCatch>>
+    fn catch_read<'a>(&self, pieces: Pieces<'a>) -> Answer<'a, Boxed<JCatch>>
         requires nests { Nests self.now.depth self.now.steps (F.pre self.now.read) (F.post self.now.read) }
         requires size { length pieces.now < 2 ^ 32 }
         ensures { Gives found (Shorter pieces.now) (r.catch_read (r.readers self.now.steps) self.now.depth (shown pieces.now)) result }
@@ -180,11 +177,7 @@ impl<F: for<'a, 'b> Fn(Global, Pieces<'a>, Ask<'b>, usize, usize) -> Answer<'a, 
 
     /// Behind `try`.
     #[tactic(auto, unfolding(java_units::specs::Reading::try_read))]
-    pub fn try_read<'a>(
-        &self,
-        at: Position,
-        pieces: Pieces<'a>,
-    ) -> Answer<'a, Boxed<JStatement>>
+    pub fn try_read<'a>(&self, at: Position, pieces: Pieces<'a>) -> Answer<'a, Boxed<JStatement>>
         requires nests { Nests self.now.depth self.now.steps (F.pre self.now.read) (F.post self.now.read) }
         requires size { length pieces.now < 2 ^ 32 }
         ensures { Gives found (Shorter pieces.now) (r.try_read (r.readers self.now.steps) self.now.depth at (shown pieces.now)) result }

@@ -59,10 +59,7 @@ fn with_end<'a>(
 impl<F: for<'a, 'b> Fn(Global, Pieces<'a>, Ask<'b>, usize, usize) -> Answer<'a, Part>> Grammar<F> {
     /// The constants of an enum as far as what follows them (JLS 8.9.1).
     #[tactic(auto, unfolding(java_units::specs::Reading::constants_list))]
-    pub fn constants_list<'a>(
-        &self,
-        pieces: Pieces<'a>,
-    ) -> Answer<'a, ConstantsFound>
+    pub fn constants_list<'a>(&self, pieces: Pieces<'a>) -> Answer<'a, ConstantsFound>
         requires nests { Nests self.now.depth self.now.steps (F.pre self.now.read) (F.post self.now.read) }
         requires size { length pieces.now < 2 ^ 32 }
         ensures { Gives constants_found (Shorter pieces.now) (r.constants_list (r.readers self.now.steps) (shown pieces.now)) result }
@@ -104,11 +101,7 @@ impl<F: for<'a, 'b> Fn(Global, Pieces<'a>, Ask<'b>, usize, usize) -> Answer<'a, 
 
     /// The constants of an enum, and the members behind them (JLS 8.9).
     #[tactic(auto, unfolding(java_units::specs::Reading::enum_inside))]
-    fn enum_inside<'a, 'b>(
-        &self,
-        pieces: Pieces<'a>,
-        owner: Owner<'b>,
-    ) -> Answer<'a, Inside>
+    fn enum_inside<'a, 'b>(&self, pieces: Pieces<'a>, owner: Owner<'b>) -> Answer<'a, Inside>
         requires nests { Nests self.now.depth self.now.steps (F.pre self.now.read) (F.post self.now.read) }
         requires size { length pieces.now < 2 ^ 32 }
         ensures { Gives inside_found (Shorter pieces.now) (r.enum_inside (r.readers self.now.steps) (r.until r.begins_close ((r.readers self.now.steps).member self.now.depth (owner_seen owner.entry))) (shown pieces.now)) result }
@@ -132,11 +125,7 @@ impl<F: for<'a, 'b> Fn(Global, Pieces<'a>, Ask<'b>, usize, usize) -> Answer<'a, 
 
     /// The members of a class or an interface (JLS 8.1.6, 9.1.4).
     #[tactic(auto, unfolding(java_units::specs::Reading::plain_inside))]
-    fn plain_inside<'a, 'b>(
-        &self,
-        pieces: Pieces<'a>,
-        owner: Owner<'b>,
-    ) -> Answer<'a, Inside>
+    fn plain_inside<'a, 'b>(&self, pieces: Pieces<'a>, owner: Owner<'b>) -> Answer<'a, Inside>
         requires nests { Nests self.now.depth self.now.steps (F.pre self.now.read) (F.post self.now.read) }
         requires size { length pieces.now < 2 ^ 32 }
         ensures { Gives inside_found (Shorter pieces.now) (r.plain_inside (r.readers self.now.steps) (r.until r.begins_close ((r.readers self.now.steps).member self.now.depth (owner_seen owner.entry))) (shown pieces.now)) result }
@@ -153,11 +142,7 @@ impl<F: for<'a, 'b> Fn(Global, Pieces<'a>, Ask<'b>, usize, usize) -> Answer<'a, 
     }
 
     /// What stands between the braces behind the head.
-    fn inside<'a>(
-        &self,
-        head: &JTypeHead,
-        pieces: Pieces<'a>,
-    ) -> Answer<'a, Inside>
+    fn inside<'a>(&self, head: &JTypeHead, pieces: Pieces<'a>) -> Answer<'a, Inside>
         requires nests { Nests self.now.depth self.now.steps (F.pre self.now.read) (F.post self.now.read) }
         requires size { length pieces.now < 2 ^ 32 }
         ensures { Gives inside_found (Shorter pieces.now) (r.inside (r.readers self.now.steps) head.now (r.until r.begins_close ((r.readers self.now.steps).member self.now.depth (s.owner_of head.now))) (shown pieces.now)) result }
@@ -171,11 +156,7 @@ impl<F: for<'a, 'b> Fn(Global, Pieces<'a>, Ask<'b>, usize, usize) -> Answer<'a, 
 
     /// A type that is a member of one in an expression.
     #[tactic(auto, unfolding(java_units::specs::Reading::typed))]
-    pub fn typed<'a>(
-        &self,
-        pieces: Pieces<'a>,
-        place: JHome,
-    ) -> Answer<'a, Boxed<JMember>>
+    pub fn typed<'a>(&self, pieces: Pieces<'a>, place: JHome) -> Answer<'a, Boxed<JMember>>
         requires nests { Nests self.now.depth self.now.steps (F.pre self.now.read) (F.post self.now.read) }
         requires size { length pieces.now < 2 ^ 32 }
         ensures { Gives found (Shorter pieces.now) (r.typed (r.readers self.now.steps) self.now.depth ((r.readers self.now.steps).member self.now.depth) place (shown pieces.now)) result }
