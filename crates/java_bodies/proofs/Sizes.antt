@@ -11,6 +11,8 @@ use Rattle.java_reading.proofs.Tools.{bind_some, maybe_is, some_same}
 use Rattle.java_spelling.proofs.TypeLaws.{typed_sound}
 use Rattle.java_units.specs.Cutting.{Stop, Weight, token_weight, turn, is_raw, behind, Cut, cut_step, cut_raw, cut_by, cut}
 use Rattle.java_units.specs.Reading.{before_curly}
+use Rattle.java_pieces.specs.declared.piece.Piece.{Piece}
+use Rattle.java_pieces.specs.Shown.{shown}
 use Rattle.java_parts.proofs.Rules.{length_shown}
 use Rattle.java_units.proofs.Cuts.{found}
 
@@ -79,6 +81,13 @@ typed_within d ts rest x e =
     let k = length-append (typed_tokens x) rest in
     omega (arith, l, k)
 
-pub ruleset curlies = (curly_within, length_shown)
+pub curly_shorter : (ts before behind : List Piece) → (shown before, shown behind) ≡ before_curly (shown ts) → length behind ≤ length ts
+curly_shorter ts before behind e =
+    let same : shown behind ≡ (before_curly (shown ts)).1 = ap (λ (x : Tokens × Tokens). x.1) e in
+    let l = ap length same in
+    let h = curly_within (shown ts) in
+    let k = length_shown ts in
+    let j = length_shown behind in
+    omega (arith, l, h, k, j)
 
 pub ruleset types = (typed_within, length_shown)

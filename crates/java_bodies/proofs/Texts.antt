@@ -1,6 +1,5 @@
 -- The text of a head with what ends it.
-use Rattle.std.proofs.Common.{◌≡◌, List, [], ◌∷◌, ◌++◌, take, Some, None, refl, ap}
-use Rattle.std.proofs.lemmas.List.{map-append}
+use Rattle.std.proofs.Common.{◌≡◌, List, [], ◌∷◌, ◌++◌, take, Some, None, refl, ap, append-nil}
 use Rattle.java_tree.specs.declared.tokens.Position.{Position}
 use Rattle.java_tree.specs.declared.tokens.Mark.TheVariants as m
 use Rattle.java_tree.specs.Seen.{Token, Tokens}
@@ -36,8 +35,11 @@ end_none [] e = refl
 end_none (Token.Sign m.Semicolon c ∷ ts) e = absurd (cc e)
 end_none (_ ∷ ts) e = refl
 
-pub ruleset texts = (shown_nil, shown_cons, shown_append)
+pub none_behind : (xs : Tokens) → xs ++ [] ≡ xs
+none_behind xs = append-nil xs
+
+pub ruleset texts = (shown_nil, shown_cons, shown_append, none_behind)
 
 pub ruleset labels = (colon_first)
 
-pub ruleset ends = (end_some, end_none)
+pub ruleset ends = (end_some, end_none, none_behind)

@@ -1,3 +1,4 @@
 pub mod Asks
 pub mod Heads
+pub mod Firsts
 pub mod Members

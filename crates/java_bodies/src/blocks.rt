@@ -8,8 +8,9 @@ ghost use Rattle.java_bodies.specs.Asks.{Nests, Shorter, braced_found, found};
 
 use crate::asks::{Answer, Ask, Braced, Part, Until};
 use crate::grammar::Grammar;
-use crate::tokens::{begins_close, close_curly, open_curly};
+use crate::tokens::{close_curly, open_curly};
 use j2k_base::NoMemory;
+use java_cuts::begins_close;
 use java_fits::Role;
 use java_pieces::Pieces;
 use java_units::JStatement;

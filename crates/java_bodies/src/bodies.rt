@@ -9,8 +9,8 @@ ghost use Rattle.java_bodies.specs.Asks.{Nests, Shorter, asked, part_found, same
 
 use crate::asks::{Answer, Ask, Part, Until};
 use crate::grammar::Grammar;
-use crate::tokens::is_end;
 use j2k_base::NoMemory;
+use java_cuts::is_end;
 use java_fits::{Owner, Role};
 use java_pieces::Pieces;
 use java_units::JBody;

@@ -16,10 +16,10 @@ ghost use Rattle.java_bodies.specs.Heads.{AllSmall, CutFits, TextParts, conditio
 
 use crate::asks::{Answer, Ask, Headed, Part, Rounded};
 use crate::grammar::Grammar;
-use crate::tokens::{close, is_end, open_round};
+use crate::tokens::{close, open_round};
 use j2k_base::NoMemory;
 use java_clauses::{for_head, lock, simple};
-use java_cuts::{CutFound, Stop, cut, spans};
+use java_cuts::{CutFound, Stop, cut, is_end, spans};
 use java_exprs::read;
 use java_heads::{JForHead, JLock, JSimple};
 use java_pieces::{Piece, Pieces};

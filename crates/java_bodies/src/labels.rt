@@ -1,10 +1,11 @@
 //! Labels of a switch, and pieces that end a head.
 
-ghost use Rattle.std.specs.Prelude.{◌≡◌, ◌≤◌, ◌<◌, ◌+◌, ◌^◌, ◌++◌, length, take, IfOk};
+ghost use Rattle.std.specs.Prelude.{◌≡◌, ◌≤◌, ◌<◌, ◌+◌, ◌^◌, ◌++◌, length, take, IfOk, Some};
 ghost use Rattle.java_units.specs.Reading as r;
 ghost use Rattle.java_pieces.specs.Shown.{shown};
 ghost use Rattle.java_parts.specs.Gives.{Gives};
 ghost use Rattle.java_bodies.specs.Asks.{Nests, Shorter, found};
+ghost use Rattle.java_bodies.specs.Firsts.{first_shown};
 
 use crate::asks::{Answer, Ask, Part};
 use crate::grammar::Grammar;
@@ -18,16 +19,33 @@ use java_units::JCase;
 use sqlite_items::Boxed;
 use std::alloc::Global;
 
+/// The first of the pieces.
+#[tactic(auto, unfolding(java_pieces::specs::Shown::shown))]
+fn first_piece<'a>(pieces: Pieces<'a>) -> Option<Piece<'a>>
+    ensures { first_shown result ≡ take 1 (shown pieces.now) }
+{
+    let (piece, _) = pieces.split_first()?;
+    Some(*piece)
+}
+
+#[tactic(auto, using(crate::proofs::Texts::texts))]
+fn pushed<'a>(text: Vec<Piece<'a>>, piece: Piece<'a>) -> Result<Vec<Piece<'a>>, NoMemory>
+    ensures { IfOk result (λ x. shown x.items ≡ shown text.entry.items ++ first_shown (Some piece.entry)) }
+{
+    let mut text = text;
+    text.push(piece)?;
+    Ok(text)
+}
+
 /// The text and the first of the pieces, where there is one.
 #[tactic(auto, using(crate::proofs::Texts::texts))]
 pub fn with_first<'a>(text: Vec<Piece<'a>>, pieces: Pieces<'a>) -> Result<Vec<Piece<'a>>, NoMemory>
     ensures { IfOk result (λ x. shown x.items ≡ shown text.entry.items ++ take 1 (shown pieces.now)) }
 {
-    let mut text = text;
-    if let Some((piece, _)) = pieces.split_first() {
-        text.push(*piece)?;
+    match first_piece(pieces) {
+        Some(piece) => pushed(text, piece),
+        None => Ok(text),
     }
-    Ok(text)
 }
 
 impl<F: for<'a, 'b> Fn(Global, Pieces<'a>, Ask<'b>, usize, usize) -> Answer<'a, Part>> Grammar<F> {

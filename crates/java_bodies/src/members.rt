@@ -25,7 +25,6 @@ use sqlite_items::Boxed;
 use std::alloc::Global;
 
 /// What stands before the first `{`, and what begins with it.
-#[tactic(auto, using(crate::proofs::Sizes::curlies))]
 pub fn at_curly<'a>(pieces: Pieces<'a>) -> (Pieces<'a>, Pieces<'a>)
     ensures same { (shown result.0.now, shown result.1.now) ≡ r.before_curly (shown pieces.now) }
     ensures shorter { length result.1.now ≤ length pieces.now }

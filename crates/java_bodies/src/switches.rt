@@ -8,7 +8,8 @@ ghost use Rattle.java_bodies.specs.Asks.{Nests, Shorter, braced_found, found};
 
 use crate::asks::{Answer, Ask, Braced, Part, Until};
 use crate::grammar::Grammar;
-use crate::tokens::{begins_case, close_curly, open_curly, stops};
+use crate::tokens::{close_curly, open_curly, stops};
+use java_cuts::begins_case;
 use java_parts::onward;
 use java_pieces::Pieces;
 use java_tree::Position;

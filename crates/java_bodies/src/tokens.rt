@@ -8,6 +8,7 @@ ghost use Rattle.java_pieces.specs.Shown.{shown};
 ghost use Rattle.java_bodies.specs.Asks.{Takes, stop};
 
 use crate::asks::Until;
+use java_cuts::{begins_case, begins_catch, begins_close, ends_group, is_end};
 use java_pieces::{Head, Pieces, first};
 use java_tree::{Keyword, Mark, Position};
 
@@ -80,52 +81,6 @@ pub fn catch_word<'a>(pieces: Pieces<'a>) -> Option<(Position, Pieces<'a>)>
     match first(pieces) {
         Head::Word(Keyword::Catch, at, rest) => Some((at, rest)),
         _ => None,
-    }
-}
-
-pub fn is_end<'a>(pieces: Pieces<'a>) -> bool
-    ensures { result ≡ u.is_end (shown pieces.now) }
-{
-    match first(pieces) {
-        Head::End => true,
-        _ => false,
-    }
-}
-
-pub fn begins_close<'a>(pieces: Pieces<'a>) -> bool
-    ensures { result ≡ u.begins_close (shown pieces.now) }
-{
-    match first(pieces) {
-        Head::Mark(Mark::CloseCurly, _, _) => true,
-        _ => false,
-    }
-}
-
-pub fn begins_case<'a>(pieces: Pieces<'a>) -> bool
-    ensures { result ≡ u.begins_case (shown pieces.now) }
-{
-    match first(pieces) {
-        Head::Word(Keyword::Case | Keyword::Default, _, _) => true,
-        _ => false,
-    }
-}
-
-pub fn begins_catch<'a>(pieces: Pieces<'a>) -> bool
-    ensures { result ≡ u.begins_catch (shown pieces.now) }
-{
-    match first(pieces) {
-        Head::Word(Keyword::Catch, _, _) => true,
-        _ => false,
-    }
-}
-
-pub fn ends_group<'a>(pieces: Pieces<'a>) -> bool
-    ensures { result ≡ u.ends_group (shown pieces.now) }
-{
-    match first(pieces) {
-        Head::Word(Keyword::Case | Keyword::Default, _, _) => true,
-        Head::Mark(Mark::CloseCurly, _, _) => true,
-        _ => false,
     }
 }
 
