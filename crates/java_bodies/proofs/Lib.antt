@@ -5,3 +5,4 @@ pub mod Texts
 pub mod Parts
 pub mod Each
 pub mod Fits
+pub mod Cases

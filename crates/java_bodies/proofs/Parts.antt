@@ -10,7 +10,7 @@ one_step : (n d : ℕ) (x : Ask) (ts : Tokens) → asked (readers (suc n)) x (su
 unfolding readers
 one_step n d (ask.Body b) ts = refl
 one_step n d ask.Label ts = refl
-one_step n d (ask.Statement role) ts = refl
+one_step n d (ask.Statement place) ts = refl
 one_step n d (ask.Member owner) ts = refl
 
 pub asked_more : (n d m e : ℕ) (x : Ask) (ts : Tokens) → m + 1 ≡ n → e + 1 ≡ d → asked (readers n) x d ts ≡ stepped (readers m) e x ts
@@ -23,7 +23,7 @@ pub none_by : (n d : ℕ) (x : Ask) (ts : Tokens) → n ≡ 0 → asked (readers
 unfolding readers
 none_by zero d (ask.Body b) ts h = refl
 none_by zero d ask.Label ts h = refl
-none_by zero d (ask.Statement role) ts h = refl
+none_by zero d (ask.Statement place) ts h = refl
 none_by zero d (ask.Member owner) ts h = refl
 none_by (suc n) d x ts h = absurd (omega arith)
 
@@ -32,7 +32,7 @@ unfolding readers
 none_deep zero d x ts h = none_by zero d x ts refl
 none_deep (suc n) zero (ask.Body b) ts h = refl
 none_deep (suc n) zero ask.Label ts h = refl
-none_deep (suc n) zero (ask.Statement role) ts h = refl
+none_deep (suc n) zero (ask.Statement place) ts h = refl
 none_deep (suc n) zero (ask.Member owner) ts h = refl
 none_deep (suc n) (suc d) x ts h = absurd (omega arith)
 

@@ -36,13 +36,13 @@ named_is R d place n at [] = refl
 named_is R d place n at (Token.Sign m.Colon c ∷ ts) = refl
 named_is R d place n at (_ ∷ ts) = refl
 
-pub alone_none : (at : Position) (x : Braced JStatement) (xs : List JCatch) (ts : Tokens) → xs ≡ [] → try_alone at x xs ts ≡ None
-alone_none at x [] ts e = refl
-alone_none at x (y ∷ ys) ts e = absurd (cc e)
+pub alone_none : (R : Readers) (d : ℕ) (at : Position) (x : Braced JStatement) (xs : List JCatch) (ts : Tokens) → xs ≡ [] → try_alone R d at x xs ts ≡ None
+alone_none R d at x [] ts e = refl
+alone_none R d at x (y ∷ ys) ts e = absurd (cc e)
 
-pub alone_some : (at : Position) (x : Braced JStatement) (xs : List JCatch) (ts : Tokens) → xs ≢ [] → try_alone at x xs ts ≡ Some (st.Try at x.opens x.items x.closes xs, ts)
-alone_some at x [] ts e = absurd (e refl)
-alone_some at x (y ∷ ys) ts e = refl
+pub alone_some : (R : Readers) (d : ℕ) (at : Position) (x : Braced JStatement) (xs : List JCatch) (ts : Tokens) → xs ≢ [] → try_alone R d at x xs ts ≡ Some (st.Try at x.opens x.items x.closes xs, ts)
+alone_some R d at x [] ts e = absurd (e refl)
+alone_some R d at x (y ∷ ys) ts e = refl
 
 pub ruleset blocks = (block_none, block_some, first_none, first_some)
 

@@ -4,6 +4,7 @@ use Rattle.java_tree.specs.declared.tokens.Position.{Position}
 use Rattle.java_tree.specs.declared.tokens.Mark.TheVariants as m
 use Rattle.java_tree.specs.Seen.{Token, Tokens}
 use Rattle.java_reading.specs.Reading.{colon}
+use Rattle.java_reading.proofs.Tools.{some_same}
 use Rattle.java_heads.specs.Reading.{semicolon}
 use Rattle.java_pieces.specs.declared.piece.Piece.{Piece}
 use Rattle.java_pieces.specs.Shown.{shown, piece_shown}
@@ -23,11 +24,11 @@ shown_append [] ys = refl
 shown_append (x ∷ xs) ys = ap (λ (l : Tokens). piece_shown x ∷ l) (shown_append xs ys)
 
 pub colon_first : (ts us : Tokens) (at : Position) → colon ts ≡ Some (at, us) → take 1 ts ≡ Token.Sign m.Colon at ∷ []
-colon_first (Token.Sign m.Colon c ∷ ts) us at e = let same : c ≡ at = cc e in ap (λ (p : Position). Token.Sign m.Colon p ∷ []) same
+colon_first (Token.Sign m.Colon c ∷ ts) us at e = let same : (c, ts) ≡ (at, us) = some_same e in ap (λ (p : Position × Tokens). Token.Sign m.Colon p.0 ∷ []) same
 colon_first _ us at e = absurd (cc e)
 
 pub end_some : (ts us : Tokens) (at : Position) → semicolon ts ≡ Some (at, us) → constants_end ts ≡ (take 1 ts, us)
-end_some (Token.Sign m.Semicolon c ∷ ts) us at e = let same : ts ≡ us = cc e in ap (λ (l : Tokens). (Token.Sign m.Semicolon c ∷ [], l)) same
+end_some (Token.Sign m.Semicolon c ∷ ts) us at e = let same : (c, ts) ≡ (at, us) = some_same e in ap (λ (p : Position × Tokens). (Token.Sign m.Semicolon c ∷ [], p.1)) same
 end_some _ us at e = absurd (cc e)
 
 pub end_none : (ts : Tokens) → semicolon ts ≡ None → constants_end ts ≡ ([], ts)

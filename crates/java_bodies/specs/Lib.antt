@@ -2,3 +2,4 @@ pub mod Asks
 pub mod Heads
 pub mod Firsts
 pub mod Members
+pub mod Cases

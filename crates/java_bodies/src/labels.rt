@@ -6,6 +6,8 @@ ghost use Rattle.java_pieces.specs.Shown.{shown};
 ghost use Rattle.java_parts.specs.Gives.{Gives};
 ghost use Rattle.java_bodies.specs.Asks.{Nests, Shorter, found};
 ghost use Rattle.java_bodies.specs.Firsts.{first_shown};
+ghost use Rattle.java_bodies.specs.Cases.{label_case_read, label_read};
+ghost use Rattle.java_units.specs.declared.statements.JCase.{roll-JCase};
 
 use crate::asks::{Answer, Ask, Part};
 use crate::grammar::Grammar;
@@ -14,9 +16,10 @@ use crate::tokens::colon;
 use j2k_base::NoMemory;
 use java_clauses::switch_label;
 use java_cuts::{CutFound, Stop, spans};
+use java_heads::JSwitchLabel;
 use java_pieces::{Piece, Pieces};
-use java_units::JCase;
-use sqlite_items::Boxed;
+use java_units::{JBody, JCase};
+use sqlite_items::{Boxed, Items};
 use std::alloc::Global;
 
 /// The first of the pieces.
@@ -48,35 +51,68 @@ pub fn with_first<'a>(text: Vec<Piece<'a>>, pieces: Pieces<'a>) -> Result<Vec<Pi
     }
 }
 
+/// The label with that text, before the `:` that comes first of the pieces, and what follows.
+#[tactic(auto, using(crate::proofs::Texts::labels))]
+fn label_of<'a>(
+    alloc: Global,
+    text: Vec<Piece<'a>>,
+    pieces: Pieces<'a>,
+    depth: usize,
+) -> Answer<'a, Boxed<JSwitchLabel>>
+    requires { depth < 1000 }
+    ensures { Gives found (Shorter pieces.now) (label_read depth (shown text.entry.items) (shown pieces.now)) result }
+{
+    let Some((_, behind)) = colon(pieces) else {
+        return Ok(None);
+    };
+    let text = with_first(text, pieces)?;
+    let Some(label) = switch_label(alloc, text.as_slice(), depth + 1)? else {
+        return Ok(None);
+    };
+    Ok(Some((Boxed::new(alloc, label)?, behind)))
+}
+
+fn case_of(
+    alloc: Global,
+    label: Boxed<JSwitchLabel>,
+    bodies: Items<JBody>,
+) -> Result<Boxed<JCase>, NoMemory>
+    ensures { IfOk result (λ x. x ≡ roll-JCase (record { label = label; bodies = bodies })) }
+{
+    let label = label.into_inner();
+    Ok(Boxed::new(alloc, JCase { label, bodies })?)
+}
+
 impl<F: for<'a, 'b> Fn(Global, Pieces<'a>, Ask<'b>, usize, usize) -> Answer<'a, Part>> Grammar<F> {
     /// A label with the bodies of its value.
-    #[tactic(auto, using(crate::proofs::Texts::labels), unfolding(java_units::specs::Reading::label_step))]
-    pub fn label_step<'a>(&self, pieces: Pieces<'a>) -> Answer<'a, Boxed<JCase>>
+    fn label_case<'a>(&self, pieces: Pieces<'a>) -> Answer<'a, Boxed<JCase>>
         requires nests { Nests self.now.depth self.now.steps (F.pre self.now.read) (F.post self.now.read) }
         requires size { length pieces.now < 2 ^ 32 }
-        ensures { Gives found (Shorter pieces.now) (r.label_step (r.readers self.now.steps) self.now.depth (shown pieces.now)) result }
+        ensures { Gives found (Shorter pieces.now) (label_case_read (r.readers self.now.steps) self.now.depth (shown pieces.now)) result }
     {
         let Some(cut) = cut_off(self.alloc, Stop::Colon, pieces)? else {
             return Ok(None);
         };
         let CutFound { text, bodies, rest } = cut;
         let kinds = spans(self.alloc, text.as_slice())?;
-        let Some((_, behind)) = colon(rest) else {
+        let Some((label, behind)) = label_of(self.alloc, text, rest, self.depth)? else {
             return Ok(None);
         };
-        let text = with_first(text, rest)?;
-        let Some(label) = switch_label(self.alloc, text.as_slice(), self.depth + 1)? else {
-            return Ok(None);
-        };
-        let label = Boxed::new(self.alloc, label)?;
         let levels = java_levels::label(self.alloc, label.get())?;
         let texts = bodies.as_slice();
         let Some(bodies) = self.bodies(levels.as_slice(), kinds.as_slice(), texts, self.depth)?
         else {
             return Ok(None);
         };
-        let label = label.into_inner();
-        let case = Boxed::new(self.alloc, JCase { label, bodies })?;
-        Ok(Some((case, behind)))
+        Ok(Some((case_of(self.alloc, label, bodies)?, behind)))
+    }
+
+    /// A label with the bodies of its value.
+    pub fn label_step<'a>(&self, pieces: Pieces<'a>) -> Answer<'a, Boxed<JCase>>
+        requires nests { Nests self.now.depth self.now.steps (F.pre self.now.read) (F.post self.now.read) }
+        requires size { length pieces.now < 2 ^ 32 }
+        ensures { Gives found (Shorter pieces.now) (r.label_step (r.readers self.now.steps) self.now.depth (shown pieces.now)) result }
+    {
+        self.label_case(pieces)
     }
 }

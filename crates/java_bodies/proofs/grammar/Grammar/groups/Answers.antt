@@ -1,5 +1,9 @@
-use Rattle.std.proofs.Common.{◌≡◌, ◌≤◌, ◌+◌, ◌-◌, length, sym, ◌∙◌, arith}
+use Rattle.std.proofs.Common.{◌≡◌, ◌≤◌, ◌+◌, ◌-◌, List, [], ◌∷◌, ◌++◌, length, sym, ◌∙◌, subst, rules, arith}
+use Rattle.std.proofs.lemmas.Grind.{common_steps}
 use Rattle.java_units.specs.Reading as r
+use Rattle.java_pieces.specs.Shown.{shown}
+use Rattle.java_bodies.specs.Asks.{onto}
+use Rattle.java_units.specs.declared.statements.JCaseGroup.{JCaseGroup}
 use Rattle.java_bodies.proofs.Many.{stopped, ended, stuck, longer}
 use Rattle.java_bodies.proofs.grammar.Grammar.groups.Goals as goal
 
@@ -12,8 +16,12 @@ returns-in_default g c = stuck r.begins_close (r.group_read (r.readers c.args.se
 pub loop-turn-preserved : goal.loop-turn-preserved
 loop-turn-preserved g c =
     let h = rw c.in-Some.is at c.in_ok-item.ensures in
+    let more : c.push.new.self ≡ c.loop-turn.items ++ c.in-Some.item ∷ [] = first_of (search rules, grind (arith, common_steps)) in
     record {
-      same = rw c.onward-pieces.ensures (longer r.begins_close (r.group_read (r.readers c.args.self.now.steps) c.args.self.now.depth) _ _ c.loop-turn._turn _ _ _ _ c.loop-turn-test.true c.loop-turn.invariant.same (sym c.stops.ensures ∙ c.if-stops.false) h.0);
+      same =
+          rw c.onward-pieces.ensures
+          (subst (λ (xs : List JCaseGroup). r.many r.begins_close (r.group_read (r.readers c.args.self.now.steps) c.args.self.now.depth) (length (shown c.args.pieces.now)) (shown c.args.pieces.now) ≡ onto xs (r.many r.begins_close (r.group_read (r.readers c.args.self.now.steps) c.args.self.now.depth) (length c.args.pieces.now - (c.loop-turn._turn + 1)) (shown c.in-Some.rest.now))) (sym more)
+          (longer r.begins_close (r.group_read (r.readers c.args.self.now.steps) c.args.self.now.depth) _ _ c.loop-turn._turn _ _ _ _ c.loop-turn-test.true c.loop-turn.invariant.same (sym c.stops.ensures ∙ c.if-stops.false) h.0));
       shorter = rw c.onward-pieces.ensures (let k = h.1 in omega (arith, k));
     }
 

@@ -1,7 +1,10 @@
-use Rattle.std.proofs.Common.{◌≡◌, ◌≤◌, ◌+◌, ◌-◌, length, sym, ◌∙◌, arith}
+use Rattle.std.proofs.Common.{◌≡◌, ◌≤◌, ◌+◌, ◌-◌, List, [], ◌∷◌, ◌++◌, length, sym, ◌∙◌, subst, rules, arith}
+use Rattle.std.proofs.lemmas.Grind.{common_steps}
 use Rattle.java_fits.specs.Fits.{owner_seen}
 use Rattle.java_units.specs.Reading as r
-use Rattle.java_bodies.specs.Asks.{stop}
+use Rattle.java_pieces.specs.Shown.{shown}
+use Rattle.java_bodies.specs.Asks.{onto, stop}
+use Rattle.java_units.specs.declared.statements.JMember.{JMember}
 use Rattle.java_bodies.proofs.Many.{stopped, ended, stuck, longer}
 use Rattle.java_bodies.proofs.grammar.Grammar.members.Goals as goal
 
@@ -14,8 +17,12 @@ returns-in_default g c = stuck (stop c.args.until) ((r.readers c.args.self.now.s
 pub loop-turn-preserved : goal.loop-turn-preserved
 loop-turn-preserved g c =
     let h = rw c.in-Some.is at c.in_ok-item.ensures in
+    let more : c.push.new.self ≡ c.loop-turn.items ++ c.in-Some.item ∷ [] = first_of (search rules, grind (arith, common_steps)) in
     record {
-      same = rw c.onward-pieces.ensures (longer (stop c.args.until) ((r.readers c.args.self.now.steps).member c.args.depth (owner_seen c.args.owner)) _ _ c.loop-turn._turn _ _ _ _ c.loop-turn-test.true c.loop-turn.invariant.same (sym c.stops.ensures ∙ c.if-stops.false) h.0);
+      same =
+          rw c.onward-pieces.ensures
+          (subst (λ (xs : List JMember). r.many (stop c.args.until) ((r.readers c.args.self.now.steps).member c.args.depth (owner_seen c.args.owner)) (length (shown c.args.pieces.now)) (shown c.args.pieces.now) ≡ onto xs (r.many (stop c.args.until) ((r.readers c.args.self.now.steps).member c.args.depth (owner_seen c.args.owner)) (length c.args.pieces.now - (c.loop-turn._turn + 1)) (shown c.in-Some.rest.now))) (sym more)
+          (longer (stop c.args.until) ((r.readers c.args.self.now.steps).member c.args.depth (owner_seen c.args.owner)) _ _ c.loop-turn._turn _ _ _ _ c.loop-turn-test.true c.loop-turn.invariant.same (sym c.stops.ensures ∙ c.if-stops.false) h.0));
       shorter = rw c.onward-pieces.ensures (let k = h.1 in omega (arith, k));
     }
 
