@@ -1,5 +1,5 @@
 -- A label is read a step at a time.
-use Rattle.std.proofs.Common.{◌≡◌, ◌+◌, ◌∷◌, ◌++◌, [], ℕ, suc, Option, Some, None, refl, arith}
+use Rattle.std.proofs.Common.{◌≡◌, ◌+◌, ◌∷◌, ◌++◌, [], ℕ, suc, Option, Some, None, refl, subst, arith}
 use Rattle.java_tree.specs.declared.tokens.Position.{Position}
 use Rattle.java_tree.specs.declared.tokens.Mark.TheVariants as m
 use Rattle.java_tree.specs.Seen.{Token, Tokens}
@@ -33,11 +33,16 @@ module _ (R : r.Readers) (d : ℕ) (c : Cut) where
   ended None = refl
   ended (Some end) = labeled (switch_read (d + 1) (c.text ++ Token.Sign m.Colon end.0 ∷ [])) end.1
 
+one_more : (d : ℕ) → d + 1 ≡ suc d
+one_more d = omega arith
+
 cut_case : (R : r.Readers) (d : ℕ) (o : Option Cut)
     → (o >>= λ c. label_read d c.text c.rest >>= after R d c)
     ≡ (o >>= λ c. colon c.rest >>= λ end. switch_read (suc d) (c.text ++ Token.Sign m.Colon end.0 ∷ []) >>= λ x. after R d c (x, end.1))
 cut_case R d None = refl
-cut_case R d (Some c) = ended R d c (colon c.rest)
+cut_case R d (Some c) =
+    subst (λ (k : ℕ). (label_read d c.text c.rest >>= after R d c) ≡ (colon c.rest >>= λ end. switch_read k (c.text ++ Token.Sign m.Colon end.0 ∷ []) >>= λ x. after R d c (x, end.1)))
+    (one_more d) (ended R d c (colon c.rest))
 
 pub label_is : (R : r.Readers) (d : ℕ) (ts : Tokens) → label_case_read R d ts ≡ r.label_step R d ts
 unfolding r.label_step
