@@ -102,7 +102,7 @@ const HEADS: [Case; 25] = [
     },
     Case {
         text: b"class A { A<int> x; }",
-        fault: "S2 1:11",
+        fault: "",
     },
 ];
 
