@@ -7,6 +7,3 @@ mod parts;
 mod tops;
 
 pub use files::{Declared, unit};
-
-#[cfg(test)]
-mod tests;

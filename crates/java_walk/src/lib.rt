@@ -7,6 +7,3 @@ mod states;
 mod walk;
 
 pub use walk::first_fault;
-
-#[cfg(test)]
-mod tests;
