@@ -39,18 +39,19 @@ fn nested(alloc: Global, form: Form, count: usize) -> Result<String, Fail> {
     fault_of(alloc, text.as_slice())
 }
 
-/// A form, how many of it are the most, and the fault of one more.
+/// A form, how many of it are the most, one more, and the fault of that.
 #[derive(Clone, Copy)]
 struct Limit {
     form: Form,
     most: usize,
+    more: usize,
     fault: &'static str,
 }
 
 fn first_wrong(alloc: Global, limits: &[Limit]) -> Result<String, Fail> {
     for (number, limit) in limits.iter().enumerate() {
         let least = nested(alloc, limit.form, limit.most)?;
-        let more = nested(alloc, limit.form, limit.most + 1)?;
+        let more = nested(alloc, limit.form, limit.more)?;
         if least.as_str() != "" || more.as_str() != limit.fault {
             return Ok(format!(in alloc; "{number}: {} {}", least.as_str(), more.as_str())?);
         }
@@ -69,6 +70,7 @@ const LIMITS: [Limit; 5] = [
             foot: b"; }",
         },
         most: 199,
+        more: 200,
         fault: "S3 1:225",
     },
     Limit {
@@ -80,6 +82,7 @@ const LIMITS: [Limit; 5] = [
             foot: b" } }",
         },
         most: 198,
+        more: 199,
         fault: "S3 1:220",
     },
     Limit {
@@ -91,6 +94,7 @@ const LIMITS: [Limit; 5] = [
             foot: b"; } }",
         },
         most: 198,
+        more: 199,
         fault: "S2 1:11",
     },
     Limit {
@@ -102,6 +106,7 @@ const LIMITS: [Limit; 5] = [
             foot: b"y; }",
         },
         most: 199,
+        more: 200,
         fault: "S2 1:11",
     },
     Limit {
@@ -113,6 +118,7 @@ const LIMITS: [Limit; 5] = [
             foot: b"}",
         },
         most: 199,
+        more: 200,
         fault: "S3 1:2009",
     },
 ];
