@@ -1,6 +1,6 @@
 -- The files of a project under a folder, and the limits on them.
 use Rattle.std.specs.Prelude.{◌≡◌, ◌≤◌, ◌⊎◌, ℕ, ◌+◌, nat_lt, List, [], ◌∷◌, length, map, filter, nat_eq, Bool, true, false, IsTrue, ◌&&◌, Option, Some, None, if◌then◌else◌, unwrap_or}
-use Rattle.std.specs.List.{ends_with, list_any}
+use Rattle.std.specs.List.{All, ends_with, list_any}
 use Rattle.std.specs.Str.{bytes_eq}
 use Rattle.std.specs.FinMap as finite
 use Rattle.j2k_base.specs.Lists.{Lists}
@@ -139,3 +139,16 @@ IsFile src files sum path (file_read.TooLarge excess) = file_excess src files su
 abbrev pub IsWithinTotal : ℕ → FileRead → Type 0
 IsWithinTotal sum (file_read.Whole source) = sum + length source.bytes ≤ MAX_TOTAL_BYTES
 IsWithinTotal sum (file_read.TooLarge excess) = Unit {0}
+
+-- each file is of no more bytes than all may have
+abbrev pub AreSmall : List SourceFile → Type 0
+AreSmall files = All (λ file. length file.bytes ≤ MAX_TOTAL_BYTES) files
+
+abbrev pub AreSmallFiles : FilesRead → Type 0
+AreSmallFiles (files_read.Whole sources) = AreSmall sources
+AreSmallFiles (files_read.TooLarge excess) = Unit {0}
+
+abbrev pub IsSmall : Loaded → Type 0
+IsSmall (loaded.Whole sources) = AreSmall sources.files
+IsSmall (loaded.TooLarge excess) = Unit {0}
+IsSmall (loaded.Refused fault) = Unit {0}

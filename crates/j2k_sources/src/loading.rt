@@ -6,7 +6,7 @@ ghost use Rattle.std.specs.FinMap as finite;
 ghost use Rattle.j2k_base.specs.Lists.{Lists};
 ghost use Rattle.j2k_io.specs.Disks.{in_folder, listing};
 ghost use Rattle.j2k_sources.specs.Causes.{HasCauses};
-ghost use Rattle.j2k_sources.specs.Sources.{is_java as is_java_by, java_paths as java_paths_by, has_settings, AreListed, IsLoaded, IsSettings, IsFiles, IsFile, IsWithinTotal};
+ghost use Rattle.j2k_sources.specs.Sources.{is_java as is_java_by, java_paths as java_paths_by, has_settings, AreListed, IsLoaded, IsSettings, IsFiles, IsFile, IsWithinTotal, AreSmallFiles, IsSmall};
 
 use crate::halt::{Halt, read};
 use crate::limits::{
@@ -46,6 +46,7 @@ pub fn load<D: Disk>(
 ) -> Result<Loaded, Halt>
     requires { IfSome (D.held disk.old) (λ files. paths.now ≡ listing src.now files) }
     ensures loaded { IfOk result (λ loaded. IfSome (D.held disk.old) (λ files. IsLoaded src.now files loaded)) }
+    ensures small { IfOk result IsSmall }
     ensures kept { D.held disk.new ≡ D.held disk.old }
     ensures causes { HasCauses (D.reads disk.old) (D.reads disk.new) (D.writes disk.old) (D.writes disk.new) result }
     ensures no_write { IsErrOf result Halt.Write → ⊥ }
@@ -144,6 +145,7 @@ fn read_files<D: Disk>(
 ) -> Result<FilesRead, Halt>
     requires { IfSome (D.held disk.old) (λ files. AreListed src.now files java.now) }
     ensures read { IfOk result (λ read. IfSome (D.held disk.old) (λ files. IsFiles src.now files java.now read)) }
+    ensures small { IfOk result AreSmallFiles }
     ensures kept { D.held disk.new ≡ D.held disk.old }
     ensures causes { HasCauses (D.reads disk.old) (D.reads disk.new) (D.writes disk.old) (D.writes disk.new) result }
     ensures no_write { IsErrOf result Halt.Write → ⊥ }

@@ -6,36 +6,39 @@ use Rattle.j2k_io.specs.Disks.{Files, listing, with_files}
 use Rattle.j2k_sources.specs.declared.loading.Loaded.{Loaded}
 use Rattle.j2k_sources.specs.declared.loading.Loaded.TheVariants as loaded
 use Rattle.j2k_sources.specs.Sources.{IsLoaded}
-use Rattle.meanings.specs.declared.java.JClass.{JClass}
-use Rattle.meanings.specs.Convert.{class_of, classes_of}
+use Rattle.java_tree.specs.Seen.{seen}
+use Rattle.java_taken.proofs.Taken.{taken as taken_good}
+use Rattle.meanings.specs.Convert.{file_of, files_of}
 use Rattle.meanings.specs.KText.{KText}
 use Rattle.meanings.proofs.Headline.{same_steps}
 use Rattle.meanings.proofs.Spelling.{spells_one}
 use Rattle.meanings.proofs.Typed.{types_are_kept, spelling_is_kept}
+use Rattle.j2k_tool.specs.declared.files.TakenFile.{TakenFile}
 use Rattle.j2k_tool.specs.declared.status.Status.{Status}
 use Rattle.j2k_tool.specs.declared.status.Status.TheVariants.{Done, Usage, NotEmpty, TooLarge, Refused}
 use Rattle.j2k_tool.specs.Asks.{Answer, converted, ConvertsLoaded, AsksOver, AsksOf, Asks, Answered}
 use Rattle.j2k_tool.specs.Headline.{IsWritten, AreWritten, Headline}
-use Rattle.j2k_tool.specs.Projects.{IsFileOf, Spell, IsProject}
+use Rattle.j2k_tool.specs.Paths.{class_name, with_name, names_of}
+use Rattle.j2k_tool.specs.Projects.{AreTaken, IsProject, trees_of}
+use Rattle.j2k_tool.specs.Sources.{IsTaken}
 use Rattle.j2k_tool.specs.Words.{words_mean}
 use Rattle.j2k_tool.specs.Written.{placed, kotlin_file, report_file}
 use Rattle.j2k_tool.proofs.Once.{project_once}
-use Rattle.j2k_tool.proofs.Typing.{taken_named, taken_typed, taken_plain}
 
 -- what asks for an answer of the status Done
 record IsConversion (mean : Option (List ℕ × List ℕ)) (files : Files) (answer : Answer) : Type 0 where
   src : List ℕ
   dst : List ℕ
   means : mean ≡ Some (src, dst)
-  classes : List JClass
-  project : IsProject src files classes
-  is : answer ≡ converted dst classes
+  java : List TakenFile
+  project : IsProject src files java
+  is : answer ≡ converted dst java
 
 status_is : (a b : Answer) → a ≡ b → a.status ≡ b.status
 status_is a b e = ap (λ (x : Answer). x.status) e
 
 of_what : (src dst : List ℕ) (files : Files) (what : Loaded) (answer : Answer) → IsLoaded src files what → ConvertsLoaded dst what answer → answer.status ≡ Done → IsConversion (Some (src, dst)) files answer
-of_what src dst files (loaded.Whole sources) answer is (inl p) done = record { src = src; dst = dst; means = refl; classes = p.0; project = record { sources = sources; has = is; takes = p.1 }; is = p.2 }
+of_what src dst files (loaded.Whole sources) answer is (inl p) done = record { src = src; dst = dst; means = refl; java = p.0; project = record { sources = sources; has = is; takes = p.1 }; is = p.2 }
 of_what src dst files (loaded.Whole sources) answer is (inr p) done = let other : answer.status ≡ Refused = status_is answer _ p.2 in cc
 of_what src dst files (loaded.TooLarge excess) answer is p done = let other : answer.status ≡ TooLarge = status_is answer _ p in cc
 of_what src dst files (loaded.Refused fault) answer is p done = let other : answer.status ≡ Refused = status_is answer _ p in cc
@@ -53,24 +56,27 @@ unfolding Asks
 of_asked words files answer asks done = of_words (words_mean words) files answer asks done
 
 -- the Kotlin files of a project, in a folder
-abbrev kotlin_files : List ℕ → List JClass → List (List ℕ × List ℕ)
-kotlin_files dst classes = map (placed dst) (map kotlin_file classes)
+abbrev kotlin_files : List ℕ → List TakenFile → List (List ℕ × List ℕ)
+kotlin_files dst java = map (placed dst) (map kotlin_file java)
 
-written : (dst : List ℕ) (paths : List (List ℕ)) (file : SourceFile) (class : JClass) → IsFileOf paths file class → IsWritten dst class (class_of class) (placed dst (kotlin_file class))
-written dst paths file class is =
-    let spelled = spelling_is_kept class (taken_named class is.taken) in
+written : (dst : List ℕ) (classes earlier : List (List ℕ)) (file : SourceFile) (taken : TakenFile) → IsTaken classes earlier file taken → IsWritten dst taken (file_of taken.typed.file) (placed dst (kotlin_file taken))
+written dst classes earlier file taken is =
+    let good = taken_good classes earlier is.spelled taken.typed (seen is.has.tokens.list) is.typed is.has.spells.spelled in
+    let kotlin = file_of taken.typed.file in
+    let spelled = spelling_is_kept taken.typed.file good.named in
     record {
       place = refl;
       spelled = spelled;
-      one_kotlin = λ other spells. spells_one other (class_of class) (KText (class_of class)) spells spelled;
-      no_keyword = taken_plain class is.taken;
-      typed = types_are_kept class (taken_typed class is.taken);
+      one_kotlin = λ other spells. spells_one other kotlin (KText kotlin) spells spelled;
+      no_keyword = good.keywords;
+      typed = types_are_kept taken.typed.file good.typed;
     }
 
-all_written : (dst : List ℕ) (paths : List (List ℕ)) (files : List SourceFile) (classes : List JClass) → Spell paths files classes → AreWritten dst classes (classes_of classes) (kotlin_files dst classes)
-all_written dst paths files [] spell = tt
-all_written dst paths [] (class ∷ classes) spell = absurd spell
-all_written dst paths (file ∷ files) (class ∷ classes) spell = (written dst paths file class spell.0, all_written dst paths files classes spell.1)
+all_written : (dst : List ℕ) (classes earlier : List (List ℕ)) (files : List SourceFile) (java : List TakenFile) → AreTaken classes earlier files java → AreWritten dst java (files_of (trees_of java)) (kotlin_files dst java)
+all_written dst classes earlier files [] are = tt
+all_written dst classes earlier [] (taken ∷ java) are = absurd are
+all_written dst classes earlier (file ∷ files) (taken ∷ java) are =
+    (written dst classes earlier file taken are.0, all_written dst classes (with_name earlier (class_name file.path)) files java are.1)
 
 pub headline : (words : List (List ℕ)) (files : Files) (new : Option Files) (status : Status) (text : List ℕ) → Answered (Asks words files) status text (Some files) new → status ≡ Done → Headline words files new
 headline words files new status text answered done =
@@ -79,14 +85,14 @@ headline words files new status text answered done =
       src = c.src;
       dst = c.dst;
       means = c.means;
-      java = c.classes;
+      java = c.java;
       project = c.project;
-      one_java = λ other project. project_once c.src files other c.classes project c.project;
-      kotlin = classes_of c.classes;
-      written = kotlin_files c.dst c.classes;
-      made = answered.made ∙ ap (λ (a : Answer). with_files (Some files) a.files) c.is ∙ ap (with_files (Some files)) (map-append (placed c.dst) (map kotlin_file c.classes) (report_file c.classes ∷ []));
-      spelled = all_written c.dst _ c.project.sources.files c.classes c.project.takes.1;
-      steps = same_steps c.classes;
+      one_java = λ other project. project_once c.src files other c.java project c.project;
+      kotlin = files_of (trees_of c.java);
+      written = kotlin_files c.dst c.java;
+      made = answered.made ∙ ap (λ (a : Answer). with_files (Some files) a.files) c.is ∙ ap (with_files (Some files)) (map-append (placed c.dst) (map kotlin_file c.java) (report_file c.java ∷ []));
+      spelled = all_written c.dst (names_of c.project.sources.files) [] c.project.sources.files c.java c.project.takes.1;
+      steps = same_steps (trees_of c.java);
     }
 
 -- where the disk tells its files

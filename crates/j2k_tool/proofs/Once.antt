@@ -1,70 +1,103 @@
 -- What is asked for is one answer.
 use Rattle.std.proofs.Common.{◌≡◌, inl, inr, ℕ, List, [], ◌∷◌, Option, Some, None, IfSome, refl, sym, ◌∙◌, ap, subst}
+use Rattle.j2k_base.specs.declared.places.Fault.{Fault}
 use Rattle.j2k_base.specs.declared.series.SourceFile.{SourceFile}
 use Rattle.j2k_io.specs.Disks.{Files, listing}
-use Rattle.j2k_settings.specs.declared.reading.TheConstants.{SETTINGS_FILE}
 use Rattle.j2k_sources.proofs.Once.{loaded_once}
 use Rattle.j2k_sources.specs.declared.limits.Excess.{Excess}
 use Rattle.j2k_sources.specs.declared.loading.Sources.{Sources}
 use Rattle.j2k_sources.specs.declared.loading.Loaded.{Loaded}
 use Rattle.j2k_sources.specs.declared.loading.Loaded.TheVariants as loaded
 use Rattle.j2k_sources.specs.Sources.{IsLoaded, Exceeds}
-use Rattle.meanings.specs.declared.java.JClass.{JClass}
 use Rattle.j2k_tool.specs.declared.status.Status.{Status}
 use Rattle.j2k_tool.specs.declared.status.Status.TheVariants.{Done, ReadFault, WriteFault, NoMemory, TooLarge, OutFault}
 use Rattle.j2k_tool.specs.Asks.{Answer, converted, refused, too_large, ConvertsSources, ConvertsLoaded, Converts, AsksOver, AsksOf, Asks, Answered, IsUnless}
-use Rattle.j2k_tool.specs.Faults.{not_built}
-use Rattle.j2k_tool.specs.Projects.{paths_of, Spell, FirstOpen, IsFirstOpen, Takes, IsProject, least}
+use Rattle.j2k_tool.specs.declared.files.TakenFile.{TakenFile}
+use Rattle.j2k_tool.specs.declared.files.Found.TheVariants as found
+use Rattle.j2k_tool.specs.Firsts.{FirstIn}
+use Rattle.j2k_tool.specs.Paths.{class_name, with_name, names_of}
+use Rattle.j2k_tool.specs.Projects.{AreTaken, entries_fault, least, IsFirstOpen, IsFirstFault, Takes, IsProject}
+use Rattle.j2k_tool.specs.Sources.{HasTokenFault, HasSpellingFault, HasOpenForm}
 use Rattle.j2k_tool.specs.Words.{words_mean}
-use Rattle.j2k_tool.proofs.Projects.{file_once}
+use Rattle.j2k_tool.proofs.Sound.{token_fault_once, spelling_fault_once, form_once, form_apart, taken_once as file_once, found_tokens, found_spelling}
+use Rattle.j2k_tool.proofs.Firsts.{none_first, first_once}
 
--- ---- files spell one list of classes, or have one first open form
+-- ---- files are taken in one way, or have one first fault
 
-spell_once : (paths : List (List ℕ)) (files : List SourceFile) (cs ds : List JClass) → Spell paths files cs → Spell paths files ds → cs ≡ ds
-spell_once paths [] [] [] p q = refl
-spell_once paths [] (c ∷ cs) ds p q = absurd p
-spell_once paths [] [] (d ∷ ds) p q = absurd q
-spell_once paths (file ∷ files) [] ds p q = absurd p
-spell_once paths (file ∷ files) (c ∷ cs) [] p q = absurd q
-spell_once paths (file ∷ files) (c ∷ cs) (d ∷ ds) p q =
-    ap (λ (x : JClass). x ∷ cs) (file_once paths file c d p.0 q.0) ∙ ap (λ (xs : List JClass). d ∷ xs) (spell_once paths files cs ds p.1 q.1)
+taken_once : (classes earlier : List (List ℕ)) (files : List SourceFile) (ts us : List TakenFile) → AreTaken classes earlier files ts → AreTaken classes earlier files us → ts ≡ us
+taken_once classes earlier [] [] [] p q = refl
+taken_once classes earlier [] (t ∷ ts) us p q = absurd p
+taken_once classes earlier [] [] (u ∷ us) p q = absurd q
+taken_once classes earlier (file ∷ files) [] us p q = absurd p
+taken_once classes earlier (file ∷ files) (t ∷ ts) [] p q = absurd q
+taken_once classes earlier (file ∷ files) (t ∷ ts) (u ∷ us) p q =
+    ap (λ (x : TakenFile). x ∷ ts) (file_once classes earlier file t u p.0 q.0)
+    ∙ ap (λ (xs : List TakenFile). u ∷ xs) (taken_once classes (with_name earlier (class_name file.path)) files ts us p.1 q.1)
 
-no_first : (paths : List (List ℕ)) (files : List SourceFile) (cs : List JClass) (path : List ℕ) → Spell paths files cs → FirstOpen paths files path → ⊥
-no_first paths [] cs path p q = q
-no_first paths (file ∷ files) [] path p q = p
-no_first paths (file ∷ files) (c ∷ cs) path p (inl q) = q.0 c p.0
-no_first paths (file ∷ files) (c ∷ cs) path p (inr q) = no_first paths files cs path p.1 q.1
+taken_no_token : (classes earlier : List (List ℕ)) (files : List SourceFile) (ts : List TakenFile) (f : Fault) → AreTaken classes earlier files ts → FirstIn HasTokenFault earlier files f → ⊥
+taken_no_token classes earlier [] ts f p q = q
+taken_no_token classes earlier (file ∷ files) [] f p q = p
+taken_no_token classes earlier (file ∷ files) (t ∷ ts) f p (inl q) = found_tokens classes earlier file (found.Taken t) p.0 f q
+taken_no_token classes earlier (file ∷ files) (t ∷ ts) f p (inr q) = taken_no_token classes (with_name earlier (class_name file.path)) files ts f p.1 q.1
 
-first_once : (paths : List (List ℕ)) (files : List SourceFile) (a b : List ℕ) → FirstOpen paths files a → FirstOpen paths files b → a ≡ b
-first_once paths [] a b p q = absurd p
-first_once paths (file ∷ files) a b (inl p) (inl q) = p.1 ∙ sym q.1
-first_once paths (file ∷ files) a b (inl p) (inr q) = absurd (p.0 q.0.0 q.0.1)
-first_once paths (file ∷ files) a b (inr p) (inl q) = absurd (q.0 p.0.0 p.0.1)
-first_once paths (file ∷ files) a b (inr p) (inr q) = first_once paths files a b p.1 q.1
+taken_no_spelling : (classes earlier : List (List ℕ)) (files : List SourceFile) (ts : List TakenFile) (f : Fault) → AreTaken classes earlier files ts → FirstIn HasSpellingFault earlier files f → ⊥
+taken_no_spelling classes earlier [] ts f p q = q
+taken_no_spelling classes earlier (file ∷ files) [] f p q = p
+taken_no_spelling classes earlier (file ∷ files) (t ∷ ts) f p (inl q) = found_spelling classes earlier file (found.Taken t) p.0 f q
+taken_no_spelling classes earlier (file ∷ files) (t ∷ ts) f p (inr q) = taken_no_spelling classes (with_name earlier (class_name file.path)) files ts f p.1 q.1
 
-open_once : (sources : Sources) (a b : List ℕ) → IsFirstOpen sources a → IsFirstOpen sources b → a ≡ b
-open_once sources a b (inl p) (inl q) = first_once (paths_of sources.files) sources.files a b p.1 q.1
-open_once sources a b (inl p) (inr (inl q)) = absurd (q.0 p.0)
-open_once sources a b (inl p) (inr (inr q)) = absurd (q.0 p.0)
-open_once sources a b (inr (inl p)) (inl q) = absurd (p.0 q.0)
-open_once sources a b (inr (inl p)) (inr (inl q)) = p.2 ∙ sym q.2
-open_once sources a b (inr (inl p)) (inr (inr q)) = absurd (no_first (paths_of sources.files) sources.files p.1.0 q.1.0 p.1.1 q.1.1)
-open_once sources a b (inr (inr p)) (inl q) = absurd (p.0 q.0)
-open_once sources a b (inr (inr p)) (inr (inl q)) = absurd (no_first (paths_of sources.files) sources.files q.1.0 p.1.0 q.1.1 p.1.1)
-open_once sources a b (inr (inr p)) (inr (inr q)) = p.1.2 ∙ ap (least SETTINGS_FILE.now) (first_once (paths_of sources.files) sources.files p.1.0 q.1.0 p.1.1 q.1.1) ∙ sym q.1.2
+taken_no_form : (classes earlier : List (List ℕ)) (files : List SourceFile) (ts : List TakenFile) (f : Fault) → AreTaken classes earlier files ts → FirstIn (HasOpenForm classes) earlier files f → ⊥
+taken_no_form classes earlier [] ts f p q = q
+taken_no_form classes earlier (file ∷ files) [] f p q = p
+taken_no_form classes earlier (file ∷ files) (t ∷ ts) f p (inl q) = form_apart classes earlier file t f p.0 q
+taken_no_form classes earlier (file ∷ files) (t ∷ ts) f p (inr q) = taken_no_form classes (with_name earlier (class_name file.path)) files ts f p.1 q.1
 
-takes_or_open : (sources : Sources) (classes : List JClass) (path : List ℕ) → Takes sources classes → IsFirstOpen sources path → ⊥
-takes_or_open sources classes path p (inl q) = no_first (paths_of sources.files) sources.files classes path p.1 q.1
-takes_or_open sources classes path p (inr (inl q)) = q.0 p.0
-takes_or_open sources classes path p (inr (inr q)) = q.0 p.0
+module _ (sources : Sources) where
+  abbrev Forms : List (List ℕ) → SourceFile → Fault → Type 0
+  Forms = HasOpenForm (names_of sources.files)
+
+  form_once_in : (f g : Fault) → FirstIn Forms [] sources.files f → FirstIn Forms [] sources.files g → f ≡ g
+  form_once_in f g p q = first_once Forms (λ earlier file. form_once (names_of sources.files) earlier file) [] sources.files f g p q
+
+  open_once : (f g : Fault) → IsFirstOpen sources f → IsFirstOpen sources g → f ≡ g
+  open_once f g (inl p) (inl q) = form_once_in f g p.1 q.1
+  open_once f g (inl p) (inr (inl q)) = absurd (q.0 p.0)
+  open_once f g (inl p) (inr (inr q)) = absurd (q.0 p.0)
+  open_once f g (inr (inl p)) (inl q) = absurd (p.0 q.0)
+  open_once f g (inr (inl p)) (inr (inl q)) = p.2 ∙ sym q.2
+  open_once f g (inr (inl p)) (inr (inr q)) = absurd (none_first Forms [] sources.files q.1.0 p.1 q.1.1)
+  open_once f g (inr (inr p)) (inl q) = absurd (p.0 q.0)
+  open_once f g (inr (inr p)) (inr (inl q)) = absurd (none_first Forms [] sources.files p.1.0 q.1 p.1.1)
+  open_once f g (inr (inr p)) (inr (inr q)) = p.1.2 ∙ ap (least entries_fault) (form_once_in p.1.0 q.1.0 p.1.1 q.1.1) ∙ sym q.1.2
+
+  fault_once : (f g : Fault) → IsFirstFault sources f → IsFirstFault sources g → f ≡ g
+  fault_once f g (inl p) (inl q) = first_once HasTokenFault token_fault_once [] sources.files f g p q
+  fault_once f g (inl p) (inr (inl q)) = absurd (none_first HasTokenFault [] sources.files f q.0 p)
+  fault_once f g (inl p) (inr (inr q)) = absurd (none_first HasTokenFault [] sources.files f q.0 p)
+  fault_once f g (inr (inl p)) (inl q) = absurd (none_first HasTokenFault [] sources.files g p.0 q)
+  fault_once f g (inr (inl p)) (inr (inl q)) = first_once HasSpellingFault spelling_fault_once [] sources.files f g p.1 q.1
+  fault_once f g (inr (inl p)) (inr (inr q)) = absurd (none_first HasSpellingFault [] sources.files f q.1 p.1)
+  fault_once f g (inr (inr p)) (inl q) = absurd (none_first HasTokenFault [] sources.files g p.0 q)
+  fault_once f g (inr (inr p)) (inr (inl q)) = absurd (none_first HasSpellingFault [] sources.files g p.1 q.1)
+  fault_once f g (inr (inr p)) (inr (inr q)) = open_once f g p.2 q.2
+
+  taken_no_open : (ts : List TakenFile) (f : Fault) → Takes sources ts → IsFirstOpen sources f → ⊥
+  taken_no_open ts f p (inl q) = taken_no_form (names_of sources.files) [] sources.files ts f p.1 q.1
+  taken_no_open ts f p (inr (inl q)) = q.0 p.0
+  taken_no_open ts f p (inr (inr q)) = q.0 p.0
+
+  taken_no_fault : (ts : List TakenFile) (f : Fault) → Takes sources ts → IsFirstFault sources f → ⊥
+  taken_no_fault ts f p (inl q) = taken_no_token (names_of sources.files) [] sources.files ts f p.1 q
+  taken_no_fault ts f p (inr (inl q)) = taken_no_spelling (names_of sources.files) [] sources.files ts f p.1 q.1
+  taken_no_fault ts f p (inr (inr q)) = taken_no_open ts f p q.2
 
 -- ---- and so ask for one answer
 
 sources_once : (dst : List ℕ) (sources : Sources) (a b : Answer) → ConvertsSources dst sources a → ConvertsSources dst sources b → a ≡ b
-sources_once dst sources a b (inl p) (inl q) = p.2 ∙ ap (converted dst) (spell_once (paths_of sources.files) sources.files p.0 q.0 p.1.1 q.1.1) ∙ sym q.2
-sources_once dst sources a b (inl p) (inr q) = absurd (takes_or_open sources p.0 q.0 p.1 q.1)
-sources_once dst sources a b (inr p) (inl q) = absurd (takes_or_open sources q.0 p.0 q.1 p.1)
-sources_once dst sources a b (inr p) (inr q) = p.2 ∙ ap (λ (path : List ℕ). refused (not_built path)) (open_once sources p.0 q.0 p.1 q.1) ∙ sym q.2
+sources_once dst sources a b (inl p) (inl q) = p.2 ∙ ap (converted dst) (taken_once (names_of sources.files) [] sources.files p.0 q.0 p.1.1 q.1.1) ∙ sym q.2
+sources_once dst sources a b (inl p) (inr q) = absurd (taken_no_fault sources p.0 q.0 p.1 q.1)
+sources_once dst sources a b (inr p) (inl q) = absurd (taken_no_fault sources q.0 p.0 q.1 p.1)
+sources_once dst sources a b (inr p) (inr q) = p.2 ∙ ap (λ (f : Fault). refused f) (fault_once sources p.0 q.0 p.1 q.1) ∙ sym q.2
 
 what_once : (dst : List ℕ) (what : Loaded) (a b : Answer) → ConvertsLoaded dst what a → ConvertsLoaded dst what b → a ≡ b
 what_once dst (loaded.Whole sources) a b p q = sources_once dst sources a b p q
@@ -75,11 +108,11 @@ converts_once : (src dst : List ℕ) (files : Files) (a b : Answer) → Converts
 converts_once src dst files a b p q = what_once dst q.0 a b (subst (λ (w : Loaded). ConvertsLoaded dst w a) (loaded_once src files p.0 q.0 p.1 q.1) p.2) q.2
 
 -- a folder holds one project
-pub project_once : (src : List ℕ) (files : Files) (cs ds : List JClass) → IsProject src files cs → IsProject src files ds → cs ≡ ds
-project_once src files cs ds p q =
+pub project_once : (src : List ℕ) (files : Files) (ts us : List TakenFile) → IsProject src files ts → IsProject src files us → ts ≡ us
+project_once src files ts us p q =
     let same = loaded_once src files (loaded.Whole p.sources) (loaded.Whole q.sources) p.has q.has in
     let sources : p.sources ≡ q.sources = cc in
-    spell_once (paths_of q.sources.files) q.sources.files cs ds (subst (λ (s : Sources). Spell (paths_of s.files) s.files cs) sources p.takes.1) q.takes.1
+    taken_once (names_of q.sources.files) [] q.sources.files ts us (subst (λ (s : Sources). AreTaken (names_of s.files) [] s.files ts) sources p.takes.1) q.takes.1
 
 over_once : (there : List (List ℕ)) (src dst : List ℕ) (files : Files) (a b : Answer) → AsksOver there src dst files a → AsksOver there src dst files b → a ≡ b
 over_once [] src dst files a b p q = converts_once src dst files a b p q
@@ -100,7 +133,7 @@ module _ (held : Option Files) (words : List (List ℕ)) (read write out : Type 
 
   -- a project in a folder of its own is converted, but for memory and faults
   abbrev pub Converted : Status → Type 0
-  Converted status = IfSome held (λ files. (src dst : List ℕ) (classes : List JClass) → words_mean words ≡ Some (src, dst) → listing dst files ≡ [] → IsProject src files classes → IsUnless Done status read write out)
+  Converted status = IfSome held (λ files. (src dst : List ℕ) (taken : List TakenFile) → words_mean words ≡ Some (src, dst) → listing dst files ≡ [] → IsProject src files taken → IsUnless Done status read write out)
 
   -- and so are limits that are exceeded
   abbrev pub Bounded : Status → Type 0
@@ -115,8 +148,8 @@ asks_loaded words files src dst what answer means none is converts =
 -- and so a complete run gives it
 pub complete_converts : (held : Option Files) (words : List (List ℕ)) (read write out : Type 0) (status : Status) → IsComplete held words read write out status → Converted held words read write out status
 complete_converts None words read write out status complete = tt
-complete_converts (Some files) words read write out status complete = λ src dst classes means none project.
-    complete (converted dst classes) (asks_loaded words files src dst (loaded.Whole project.sources) (converted dst classes) means none project.has (inl (classes, project.takes, refl)))
+complete_converts (Some files) words read write out status complete = λ src dst taken means none project.
+    complete (converted dst taken) (asks_loaded words files src dst (loaded.Whole project.sources) (converted dst taken) means none project.has (inl (taken, project.takes, refl)))
 
 pub complete_exceeds : (held : Option Files) (words : List (List ℕ)) (read write out : Type 0) (status : Status) → IsComplete held words read write out status → Bounded held words read write out status
 complete_exceeds None words read write out status complete = tt

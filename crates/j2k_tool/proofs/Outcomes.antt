@@ -1,33 +1,30 @@
 -- How an outcome of the steps is an outcome of what was asked for.
 use Rattle.std.proofs.Common.{◌≡◌, ◌⊎◌, inl, inr, ◌≤◌, ◌<◌, ℕ, List, [], ◌∷◌, ◌++◌, length, Option, Some, None, Result, Ok, Err, IfOk, IfSome, refl, sym, ◌∙◌, ap, subst, arith}
 use Rattle.std.specs.Prelude.{OnOk, OnErr, map}
-use Rattle.std.specs.List.{flat_map}
 use Rattle.std.proofs.lemmas.List.{take_all}
-use Rattle.j2k_base.specs.Lists.{Lists}
 use Rattle.j2k_base.specs.declared.places.Fault.{Fault}
 use Rattle.j2k_base.specs.declared.series.SourceFile.{SourceFile}
 use Rattle.j2k_io.specs.Disks.{Files, listing, with_file, with_files, IsCut}
 use Rattle.j2k_io.specs.Sinks.{appended, IsPartOf}
-use Rattle.j2k_sources.proofs.Listed.{sources_differ}
 use Rattle.j2k_sources.specs.declared.halt.Halt.{Halt}
 use Rattle.j2k_sources.specs.declared.limits.Excess.{Excess}
 use Rattle.j2k_sources.specs.declared.loading.Sources.{Sources}
 use Rattle.j2k_sources.specs.declared.loading.Loaded.{Loaded}
 use Rattle.j2k_sources.specs.declared.loading.Loaded.TheVariants as loaded
 use Rattle.j2k_sources.specs.Sources.{IsLoaded, Exceeds, Differ}
-use Rattle.meanings.specs.declared.java.JClass.{JClass}
-use Rattle.j2k_tool.specs.Asks.{Answer, usage, not_empty, refused, converted, too_large, too_large_text, done_text, ConvertsSources, ConvertsLoaded, PathsDiffer, IsAnswer, AsksOver, AsksOf, Asks, Answered, Stopped}
-use Rattle.j2k_tool.specs.Faults.{fault_line, not_built}
+use Rattle.j2k_tool.specs.declared.files.TakenFile.{TakenFile}
+use Rattle.j2k_tool.specs.Asks.{Answer, usage, not_empty, refused, converted, converted_text, too_large, too_large_text, ConvertsSources, ConvertsLoaded, KotlinDiffer, PathsDiffer, IsAnswer, AsksOver, AsksOf, Asks, Answered, Stopped}
+use Rattle.j2k_tool.specs.Faults.{fault_line}
 use Rattle.j2k_tool.specs.Messages.{message_text}
-use Rattle.j2k_tool.specs.Projects.{paths_of, Spell, IsFirstOpen, Takes}
-use Rattle.j2k_tool.specs.Report.{Choices}
+use Rattle.j2k_tool.specs.Paths.{class_name, kotlin_path, with_name, names_of}
+use Rattle.j2k_tool.specs.Projects.{paths_of, AreTaken, IsFirstFault, Takes}
 use Rattle.j2k_tool.specs.Words.{words_mean}
 use Rattle.j2k_tool.specs.Written.{files_of}
+use Rattle.j2k_tool.proofs.Names.{kotlin_differ}
 use Rattle.j2k_tool.specs.declared.status.Status.{Status}
 use Rattle.j2k_tool.specs.declared.status.Status.TheVariants.{Done, Refused, Usage, NotEmpty, TooLarge, WriteFault, NoMemory}
 use Rattle.j2k_tool.specs.declared.answers.Answer as code
 use Rattle.j2k_tool.specs.declared.texts.TheConstants.{USAGE, NOT_EMPTY, LINE_END}
-use Rattle.j2k_sources.specs.declared.loading.TheConstants.{JAVA_END}
 
 pub usage_answered : (held new : Option Files) (words : List (List ℕ)) (text : List ℕ) → words_mean words ≡ None → text ≡ USAGE.now → new ≡ held
     → IfSome held (λ files. Answered (Asks words files) Usage text (Some files) new)
@@ -65,28 +62,22 @@ none_of (first ∷ rest) h = absurd (omega arith)
 
 -- ---- what was loaded
 
--- the names of classes differ where the paths of their files do
-listed_file : (paths : List (List ℕ)) (files : List SourceFile) (classes : List JClass) (name : List ℕ) → Spell paths files classes → Lists (map (λ class. class.name) classes) name → Lists (paths_of files) (name ++ JAVA_END.now)
-listed_file paths [] [] name spell lists = lists
-listed_file paths [] (class ∷ classes) name spell lists = absurd spell
-listed_file paths (file ∷ files) [] name spell lists = absurd spell
-listed_file paths (file ∷ files) (class ∷ classes) name spell (inl same) = inl (spell.0.named ∙ ap (λ (n : List ℕ). n ++ JAVA_END.now) same)
-listed_file paths (file ∷ files) (class ∷ classes) name spell (inr there) = inr (listed_file paths files classes name spell.1 there)
+-- the paths of what is taken are those of the files
+taken_paths : (classes earlier : List (List ℕ)) (files : List SourceFile) (taken : List TakenFile) → AreTaken classes earlier files taken → map kotlin_path (paths_of files) ≡ map (λ file. kotlin_path file.path) taken
+taken_paths classes earlier [] [] are = refl
+taken_paths classes earlier [] (t ∷ taken) are = absurd are
+taken_paths classes earlier (file ∷ files) [] are = absurd are
+taken_paths classes earlier (file ∷ files) (t ∷ taken) are =
+    ap (λ (p : List ℕ). kotlin_path p ∷ map kotlin_path (paths_of files)) (sym are.0.path)
+    ∙ ap (λ (ps : List (List ℕ)). kotlin_path t.path ∷ ps) (taken_paths classes (with_name earlier (class_name file.path)) files taken are.1)
 
-names_differ : (paths : List (List ℕ)) (files : List SourceFile) (classes : List JClass) → Spell paths files classes → Differ (paths_of files) → Differ (map (λ class. class.name) classes)
-names_differ paths [] [] spell differ = tt
-names_differ paths [] (class ∷ classes) spell differ = absurd spell
-names_differ paths (file ∷ files) [] spell differ = absurd spell
-names_differ paths (file ∷ files) (class ∷ classes) spell differ =
-    (λ lists. differ.0 (subst (Lists (paths_of files)) (sym spell.0.named) (listed_file paths files classes class.name spell.1 lists)), names_differ paths files classes spell.1 differ.1)
-
-pub taken_differ : (held : Option Files) (dst : List ℕ) (sources : Sources) (classes : List JClass) → IfSome held (λ files. (listing dst files ≡ []) × Differ (paths_of sources.files)) → Takes sources classes
-    → IfSome held (λ files. (listing dst files ≡ []) × Differ (map (λ class. class.name) classes))
-taken_differ None dst sources classes h takes = tt
-taken_differ (Some files) dst sources classes h takes = (h.0, names_differ (paths_of sources.files) sources.files classes takes.1 h.1)
+pub taken_differ : (held : Option Files) (dst : List ℕ) (sources : Sources) (taken : List TakenFile) → IfSome held (λ files. (listing dst files ≡ []) × KotlinDiffer sources.files) → Takes sources taken
+    → IfSome held (λ files. (listing dst files ≡ []) × Differ (map (λ file. kotlin_path file.path) taken))
+taken_differ None dst sources taken h takes = tt
+taken_differ (Some files) dst sources taken h takes = (h.0, subst Differ (taken_paths (names_of sources.files) [] sources.files taken takes.1) h.1)
 
 what_differs : (src : List ℕ) (files : Files) (what : Loaded) → IsLoaded src files what → PathsDiffer what
-what_differs src files (loaded.Whole sources) is = sources_differ src files sources.files is.java
+what_differs src files (loaded.Whole sources) is = kotlin_differ src files sources.files is.java
 what_differs src files (loaded.TooLarge excess) is = tt
 what_differs src files (loaded.Refused fault) is = tt
 
@@ -98,29 +89,29 @@ loaded_differ (Some files) mid src dst there what same listed h is =
 
 -- ---- sources
 
-module _ (dst : List ℕ) (sources : Sources) (classes : List JClass) (takes : Takes sources classes) where
-  pub converted_answered : (old new : Option Files) (result : Result code.Answer Halt) → IfOk result (λ a. (a.status ≡ Done) × (message_text a.message ≡ done_text (length classes) (length classes) (length (flat_map Choices classes))))
-      → OnOk result (new ≡ with_files old (files_of dst classes)) → IfOk result (λ a. Answered (ConvertsSources dst sources) a.status (message_text a.message) old new)
+module _ (dst : List ℕ) (sources : Sources) (taken : List TakenFile) (takes : Takes sources taken) where
+  pub converted_answered : (old new : Option Files) (result : Result code.Answer Halt) → IfOk result (λ a. (a.status ≡ Done) × (message_text a.message ≡ converted_text taken))
+      → OnOk result (new ≡ with_files old (files_of dst taken)) → IfOk result (λ a. Answered (ConvertsSources dst sources) a.status (message_text a.message) old new)
   converted_answered old new (Err e) says made = tt
   converted_answered old new (Ok a) says made = record {
-    answer = converted dst classes;
-    asked = inl (classes, takes, refl);
+    answer = converted dst taken;
+    asked = inl (taken, takes, refl);
     status_is = sym says.0;
     text_is = sym says.1;
     made = made;
   }
 
-  pub converted_stopped : (old new : Option Files) (result : Result code.Answer Halt) → OnErr result (IsCut old (files_of dst classes) new) → OnErr result (Stopped (ConvertsSources dst sources) old new)
+  pub converted_stopped : (old new : Option Files) (result : Result code.Answer Halt) → OnErr result (IsCut old (files_of dst taken) new) → OnErr result (Stopped (ConvertsSources dst sources) old new)
   converted_stopped old new (Ok a) cut = tt
-  converted_stopped old new (Err e) cut = inr (converted dst classes, inl (classes, takes, refl), cut)
+  converted_stopped old new (Err e) cut = inr (converted dst taken, inl (taken, takes, refl), cut)
 
-pub open_answered : (dst : List ℕ) (sources : Sources) (fault : Fault) (status : Status) (text : List ℕ) (old new : Option Files) → (path : List ℕ) × IsFirstOpen sources path × (fault ≡ not_built path) → status ≡ Refused → text ≡ fault_line fault → new ≡ old
+pub refused_answered : (dst : List ℕ) (sources : Sources) (fault : Fault) (status : Status) (text : List ℕ) (old new : Option Files) → IsFirstFault sources fault → status ≡ Refused → text ≡ fault_line fault → new ≡ old
     → Answered (ConvertsSources dst sources) status text old new
-open_answered dst sources fault status text old new is status_is text_is same = record {
-  answer = refused (not_built is.0);
-  asked = inr (is.0, is.1, refl);
+refused_answered dst sources fault status text old new is status_is text_is same = record {
+  answer = refused fault;
+  asked = inr (fault, is, refl);
   status_is = sym status_is;
-  text_is = ap fault_line (sym is.2) ∙ sym text_is;
+  text_is = sym text_is;
   made = same;
 }
 

@@ -1,165 +1,113 @@
--- Which class a file spells, and which files of a project spell classes that are taken.
-use Rattle.std.proofs.Common.{◌≡◌, ◌≢◌, ◌<◌, ◌+◌, inl, inr, ℕ, ◌≤◌, Bool, true, false, not, cond, List, [], ◌∷◌, ◌++◌, length, get_or, take, drop, Option, Some, None, Result, Ok, Err, IfOk, IfSome, refl, sym, ◌∙◌, ap, subst, arith, length-append, append_assoc}
-use Rattle.std.specs.Prelude.{IsTrue, ◌||◌, ◌&&◌}
+-- What the files of a project are, file after file, and what sources are.
+use Rattle.std.proofs.Common.{◌≡◌, ◌≢◌, ◌<◌, ◌≤◌, ◌+◌, inl, inr, ℕ, Bool, true, false, not, cond, List, [], ◌∷◌, ◌++◌, length, get_or, take, Option, Some, None, Result, Ok, Err, IfOk, refl, sym, ◌∙◌, ap, subst, arith}
 use Rattle.std.specs.List.{list_any}
 use Rattle.std.specs.Str.{bytes_eq}
-use Rattle.std.proofs.lemmas.List.{take_at, take_more, drop_more, drop_all, map-append, append-nil}
-use Rattle.std.proofs.lemmas.Bool.Decides.{nat_tests}
-use Rattle.std.proofs.lemmas.Slice.Eq.{bytes_eq-Decides}
+use Rattle.std.proofs.lemmas.List.{take_more, take_all}
+use Rattle.std.proofs.lemmas.List.Elements.{All-get_or}
+use Rattle.j2k_base.specs.declared.places.Fault.{Fault}
 use Rattle.j2k_base.specs.declared.series.SourceFile.{SourceFile}
-use Rattle.j2k_settings.specs.declared.reading.TheConstants.{SETTINGS_FILE}
+use Rattle.j2k_sources.specs.declared.limits.TheConstants.{MAX_TOTAL_BYTES}
 use Rattle.j2k_sources.specs.declared.loading.Sources.{Sources}
-use Rattle.j2k_sources.specs.declared.loading.TheConstants.{JAVA_END}
-use Rattle.meanings.specs.declared.java.JStmt.{JStmt}
-use Rattle.meanings.specs.declared.java.JStmt.TheVariants.{Local, Print}
-use Rattle.meanings.specs.declared.java.JClass.{JClass}
-use Rattle.meanings.specs.JSpells.{java_text}
-use Rattle.j2k_tool.specs.declared.project.Project.{Project}
-use Rattle.j2k_tool.specs.declared.project.Project.TheVariants.{Refused}
-use Rattle.j2k_tool.specs.Faults.{not_built}
-use Rattle.j2k_tool.specs.Projects.{paths_of, names_class, are_apart, IsFileOf, Spell, FirstOpen, precedes, least, IsJudged}
-use Rattle.j2k_tool.specs.Reading.{file_at}
-use Rattle.j2k_tool.specs.Refusals.{SpellsNone}
-use Rattle.j2k_tool.specs.Taken.{is_taken, is_name, is_class, are_statements}
-use Rattle.j2k_tool.proofs.Again.{file_again}
-use Rattle.j2k_tool.proofs.Numbers.{both_true}
+use Rattle.j2k_sources.specs.Sources.{AreSmall}
+use Rattle.j2k_tool.specs.declared.files.TakenFile.{TakenFile}
+use Rattle.j2k_tool.specs.declared.files.Found.{Found}
+use Rattle.j2k_tool.specs.declared.files.Found.TheVariants as found
+use Rattle.j2k_tool.specs.declared.project.Firsts.{Firsts}
+use Rattle.j2k_tool.specs.Firsts.{NoneIn, FirstIn}
+use Rattle.j2k_tool.specs.Paths.{class_name, with_name, with_names, names_of}
+use Rattle.j2k_tool.specs.Projects.{AreTaken, IsFirst, AreFirsts, token_fault, spelling_fault, open_form, earliest, added, IsFirstOpen, entries_fault, least}
+use Rattle.j2k_tool.specs.Sources.{HasTokenFault, HasSpellingFault, HasOpenForm, IsTaken, IsFound}
+use Rattle.j2k_tool.proofs.Sound.{found_tokens, found_spelling, found_form}
+use Rattle.j2k_tool.proofs.Firsts.{one_more}
 
--- a class that is taken has a name
-named : (class : JClass) → IsTrue (is_taken class) → is_name class.name ≡ true
-unfolding is_taken
-named class taken = (both_true (is_name class.name) _ (both_true (is_class class.name) (are_statements class.name [] class.main) taken).0).0
+pub names_more : (names : List (List ℕ)) (files : List SourceFile) (file : SourceFile) → with_names names (files ++ file ∷ []) ≡ with_name (with_names names files) (class_name file.path)
+names_more names [] file = refl
+names_more names (x ∷ files) file = names_more (with_name names (class_name x.path)) files file
 
-same_some : {A : Type 0} (x y : A) → Some x ≡ Some y → x ≡ y
-same_some x y e = cc
+-- no fault is the first of two
+left_none : (a b : Option Fault) → earliest a b ≡ None → a ≡ None
+left_none None b e = refl
+left_none (Some f) b e = e
 
--- two fronts of one list, before equally long ends
-pub same_front : (a b end : List ℕ) → a ++ end ≡ b ++ end → a ≡ b
-same_front a b end e =
-    let long : length a ≡ length b = omega (arith, length-append a end, length-append b end, ap length e) in
-    sym (take_at a end (length a) refl) ∙ ap (λ (l : List ℕ). take (length a) l) e ∙ take_at b end (length a) (sym long)
+right_none : (a b : Option Fault) → earliest a b ≡ None → b ≡ None
+right_none None b e = e
+right_none (Some f) b e = cc
 
--- ---- the class of a file
+module _ (classes : List (List ℕ)) where
+  one_more_taken : (earlier : List (List ℕ)) (files : List SourceFile) (file : SourceFile) (all : List TakenFile) (taken : TakenFile) → AreTaken classes earlier files all
+      → IsTaken classes (with_names earlier files) file taken → AreTaken classes earlier (files ++ file ∷ []) (all ++ taken ∷ [])
+  one_more_taken earlier [] file [] taken are is = (is, tt)
+  one_more_taken earlier [] file (t ∷ all) taken are is = absurd are
+  one_more_taken earlier (x ∷ files) file [] taken are is = absurd are
+  one_more_taken earlier (x ∷ files) file (t ∷ all) taken are is = (are.0, one_more_taken (with_name earlier (class_name x.path)) files file all taken are.1 is)
 
--- two classes that are taken are one where their names and texts are
-pub class_once : (c d : JClass) → IsTrue (is_taken c) → IsTrue (is_taken d) → c.name ≡ d.name → java_text c ≡ java_text d → c ≡ d
-class_once c d taken taken' names texts =
-    let mains : c.main ≡ d.main = same_some _ _ (sym (file_again c taken) ∙ ap (λ (n : List ℕ). file_at n (java_text c)) names ∙ ap (file_at d.name) texts ∙ file_again d taken') in
-    ap (λ (n : List ℕ). let made : JClass = record { name = n; main = c.main } in made) names ∙ ap (λ (m : List JStmt). let made : JClass = record { name = d.name; main = m } in made) mains
+  more_taken : (files : List SourceFile) (file : SourceFile) (firsts : Firsts) (x : Found) → AreFirsts classes files firsts → IsFound classes (with_names [] files) file x
+      → (added firsts x).tokens ≡ None → (added firsts x).spelling ≡ None → (added firsts x).form ≡ None → AreTaken classes [] (files ++ file ∷ []) (added firsts x).taken
+  more_taken files file firsts (found.Tokens f) are is no_tokens no_spelling no_form = let e : Some f ≡ None = right_none firsts.tokens (Some f) no_tokens in cc
+  more_taken files file firsts (found.Spelling f) are is no_tokens no_spelling no_form = let e : Some f ≡ None = right_none firsts.spelling (Some f) no_spelling in cc
+  more_taken files file firsts (found.Open f) are is no_tokens no_spelling no_form = let e : Some f ≡ None = right_none firsts.form (Some f) no_form in cc
+  more_taken files file firsts (found.Taken t) are is no_tokens no_spelling no_form =
+      one_more_taken [] files file firsts.taken t
+      (are.taken (left_none firsts.tokens None no_tokens) (left_none firsts.spelling None no_spelling) (left_none firsts.form None no_form)) is
 
-pub file_once : (paths : List (List ℕ)) (file : SourceFile) (c d : JClass) → IsFileOf paths file c → IsFileOf paths file d → c ≡ d
-file_once paths file c d p q = class_once c d p.taken q.taken (same_front c.name d.name JAVA_END.now (sym p.named ∙ q.named)) (sym p.text ∙ q.text)
+  pub more_firsts : (files : List SourceFile) (file : SourceFile) (firsts : Firsts) (x : Found) → AreFirsts classes files firsts → IsFound classes (with_names [] files) file x
+      → AreFirsts classes (files ++ file ∷ []) (added firsts x)
+  more_firsts files file firsts x are is = record {
+    tokens = one_more HasTokenFault [] files file firsts.tokens (token_fault x) are.tokens (found_tokens classes (with_names [] files) file x is);
+    spelling = one_more HasSpellingFault [] files file firsts.spelling (spelling_fault x) are.spelling (found_spelling classes (with_names [] files) file x is);
+    form = one_more (HasOpenForm classes) [] files file firsts.form (open_form x) are.form (found_form classes (with_names [] files) file x is);
+    taken = more_taken files file firsts x are is;
+  }
 
-pub no_name : (paths : List (List ℕ)) (file : SourceFile) → ((name : List ℕ) → file.path ≡ name ++ JAVA_END.now → is_name name ≡ false) → (class : JClass) → IsFileOf paths file class → ⊥
-no_name paths file none class is = let unnamed = none class.name is.named in let is_named = named class is.taken in cc
+  pub no_firsts : (taken : List TakenFile) → taken ≡ [] → AreFirsts classes [] (record { tokens = None; spelling = None; form = None; taken = taken })
+  no_firsts taken none = record { tokens = tt; spelling = tt; form = tt; taken = λ a b c. subst (AreTaken classes [] []) (sym none) tt }
 
-pub no_text : (paths : List (List ℕ)) (file : SourceFile) (name : List ℕ) → file.path ≡ name ++ JAVA_END.now → SpellsNone name file.bytes → (class : JClass) → IsFileOf paths file class → ⊥
-no_text paths file name is none class spells = none class (same_front class.name name JAVA_END.now (sym spells.named ∙ is)) spells.taken spells.text
-
-pub not_apart : (paths : List (List ℕ)) (file : SourceFile) (name : List ℕ) (class : JClass) → file.path ≡ name ++ JAVA_END.now → class.name ≡ name → file.bytes ≡ java_text class → IsTrue (is_taken class) → are_apart paths class.main ≡ false
-    → (other : JClass) → IsFileOf paths file other → ⊥
-not_apart paths file name class is named text taken near other spells =
-    let same : other ≡ class = class_once other class spells.taken taken (same_front other.name class.name JAVA_END.now (sym spells.named ∙ is ∙ ap (λ (n : List ℕ). n ++ JAVA_END.now) (sym named))) (sym spells.text ∙ text) in
-    let apart : are_apart paths class.main ≡ true = ap (λ (c : JClass). are_apart paths c.main) (sym same) ∙ spells.apart in cc
-
--- a name that is the stem of a path is the class of that path
-pub class_is : {E : Type 0} (result : Result (Option (List ℕ)) E) (path stem end : List ℕ) → IfOk result (λ found. IfSome found (λ name. name ≡ stem)) → path ≡ stem ++ end
-    → IfOk result (λ found. IfSome found (λ class. path ≡ class ++ end))
-class_is (Ok (Some name)) path stem end same is = is ∙ ap (λ (s : List ℕ). s ++ end) (sym same)
-class_is (Ok None) path stem end same is = tt
-class_is (Err e) path stem end same is = tt
-
--- ---- the paths of a project
-
-abbrev any : List ℕ → List (List ℕ) → Bool
-any path paths = list_any (bytes_eq path) paths
-
-any_last : (path last : List ℕ) (paths : List (List ℕ)) → any path (paths ++ last ∷ []) ≡ (any path paths || bytes_eq path last)
-any_last path last [] = by_test (bytes_eq path last)
+-- a name that was declared
+pub declared : (added : Bool) (names after : List (List ℕ)) (name : List ℕ) → added ≡ not (list_any (bytes_eq name) names) → after ≡ cond added (names ++ name ∷ []) names → after ≡ with_name names name
+declared added names after name is now = by_test (list_any (bytes_eq name) names) added is now
   where
-    by_test : (b : Bool) → (b || false) ≡ b
-    by_test true = refl
-    by_test false = refl
-any_last path last (first ∷ paths) = by_test (bytes_eq path first) (any_last path last paths)
-  where
-    by_test : (b : Bool) → any path (paths ++ last ∷ []) ≡ (any path paths || bytes_eq path last) → (b || any path (paths ++ last ∷ [])) ≡ ((b || any path paths) || bytes_eq path last)
-    by_test true e = refl
-    by_test false e = e
-
-same_bytes : (a b : List ℕ) → bytes_eq a b ≡ true → a ≡ b
-same_bytes a b e = grind (arith, nat_tests, bytes_eq-Decides a b)
-
--- a path that stands in a list needn't be added
-any_again : (path last : List ℕ) (paths : List (List ℕ)) → any last paths ≡ true → any path paths ≡ (any path paths || bytes_eq path last)
-any_again path last paths there = by_test (any path paths) (bytes_eq path last) refl refl
-  where
-    by_test : (a b : Bool) → any path paths ≡ a → bytes_eq path last ≡ b → a ≡ (a || b)
-    by_test true b e f = refl
-    by_test false false e f = refl
-    by_test false true e f = let same : path ≡ last = same_bytes path last f in let here : any path paths ≡ true = ap (λ (p : List ℕ). any p paths) same ∙ there in cc
-
-pub more_paths : (scope after : List (List ℕ)) (files : List SourceFile) (i : ℕ) (file : SourceFile) (added : Bool) → i < length files → file ≡ get_or files i file
-    → ((path : List ℕ) → any path scope ≡ any path (paths_of (take i files))) → added ≡ not (any file.path scope) → after ≡ cond added (scope ++ file.path ∷ []) scope
-    → (path : List ℕ) → any path after ≡ any path (paths_of (take (i + 1) files))
-more_paths scope after files i file added h is before says now path =
-    by_test added (any file.path scope) refl says now ∙ ap (λ b. b || bytes_eq path file.path) (before path) ∙ sym (any_last path file.path (paths_of (take i files)))
-    ∙ ap (any path) (sym (map-append (λ (f : SourceFile). f.path) (take i files) (file ∷ [])) ∙ ap (λ (f : SourceFile). paths_of (take i files ++ f ∷ [])) is ∙ sym (ap paths_of (take_more files i file h)))
-  where
-    by_test : (added there : Bool) → any file.path scope ≡ there → added ≡ not there → after ≡ cond added (scope ++ file.path ∷ []) scope → any path after ≡ (any path scope || bytes_eq path file.path)
-    by_test true false e f now = ap (any path) now ∙ any_last path file.path scope
-    by_test false true e f now = ap (any path) now ∙ any_again path file.path scope e
-    by_test true true e f now = cc
-    by_test false false e f now = cc
-
--- only which paths are among them matters
-names_same : (scope paths : List (List ℕ)) → ((path : List ℕ) → any path scope ≡ any path paths) → (statement : JStmt) → names_class scope statement ≡ names_class paths statement
-names_same scope paths same (Local name value) = same (name ++ JAVA_END.now)
-names_same scope paths same (Print value) = refl
-
-apart_same : (scope paths : List (List ℕ)) → ((path : List ℕ) → any path scope ≡ any path paths) → (main : List JStmt) → are_apart scope main ≡ are_apart paths main
-apart_same scope paths same [] = refl
-apart_same scope paths same (statement ∷ main) =
-    ap (λ b. not b && are_apart scope main) (names_same scope paths same statement) ∙ ap (λ b. not (names_class paths statement) && b) (apart_same scope paths same main)
-
-file_same : (scope paths : List (List ℕ)) → ((path : List ℕ) → any path scope ≡ any path paths) → (file : SourceFile) (class : JClass) → IsFileOf scope file class → IsFileOf paths file class
-file_same scope paths same file class is = record { named = is.named; text = is.text; taken = is.taken; apart = sym (apart_same scope paths same class.main) ∙ is.apart }
+    by_test : (b a : Bool) → a ≡ not b → after ≡ cond a (names ++ name ∷ []) names → after ≡ cond b names (names ++ name ∷ [])
+    by_test true false is now = now
+    by_test false true is now = now
+    by_test true true is now = cc
+    by_test false false is now = cc
 
 -- ---- one file after another
 
-module _ (scope : List (List ℕ)) (files : List SourceFile) (known : (path : List ℕ) → any path scope ≡ any path (paths_of files)) (i : ℕ) (file : SourceFile) (h : i < length files) (is : file ≡ get_or files i file) where
-  rest_is : drop i files ≡ file ∷ drop (i + 1) files
-  rest_is = drop_more files i file h ∙ ap (λ (f : SourceFile). f ∷ drop (i + 1) files) (sym is)
+module _ (files : List SourceFile) (i : ℕ) (file : SourceFile) (h : i < length files) (is : file ≡ get_or files i file) where
+  taken_is : take (i + 1) files ≡ take i files ++ file ∷ []
+  taken_is = take_more files i file h ∙ ap (λ (f : SourceFile). take i files ++ f ∷ []) (sym is)
 
-  pub more_classes : (classes : List JClass) (class : JClass) → IsFileOf scope file class
-      → ((more : List JClass) → Spell (paths_of files) (drop i files) more → Spell (paths_of files) files (classes ++ more))
-      → (more : List JClass) → Spell (paths_of files) (drop (i + 1) files) more → Spell (paths_of files) files ((classes ++ class ∷ []) ++ more)
-  more_classes classes class spells before more rest =
-      subst (Spell (paths_of files) files) (sym (append_assoc classes (class ∷ []) more))
-      (before (class ∷ more) (subst (λ (fs : List SourceFile). Spell (paths_of files) fs (class ∷ more)) (sym rest_is) (file_same scope (paths_of files) known file class spells, rest)))
+  pub names_step : (names after : List (List ℕ)) → names ≡ with_names [] (take i files) → after ≡ with_name names (class_name file.path) → after ≡ with_names [] (take (i + 1) files)
+  names_step names after before now =
+      now ∙ ap (λ (n : List (List ℕ)). with_name n (class_name file.path)) before ∙ sym (names_more [] (take i files) file) ∙ ap (with_names []) (sym taken_is)
 
-  pub more_open : (class : JClass) → IsFileOf scope file class
-      → ((path : List ℕ) → FirstOpen (paths_of files) (drop i files) path → FirstOpen (paths_of files) files path)
-      → (path : List ℕ) → FirstOpen (paths_of files) (drop (i + 1) files) path → FirstOpen (paths_of files) files path
-  more_open class spells before path rest =
-      before path (subst (λ (fs : List SourceFile). FirstOpen (paths_of files) fs path) (sym rest_is) (inr ((class, file_same scope (paths_of files) known file class spells), rest)))
+  pub firsts_step : (classes earlier : List (List ℕ)) (firsts after : Firsts) (x : Found) → earlier ≡ with_names [] (take i files) → AreFirsts classes (take i files) firsts
+      → IsFound classes earlier file x → after ≡ added firsts x → AreFirsts classes (take (i + 1) files) after
+  firsts_step classes earlier firsts after x names are found now =
+      subst (AreFirsts classes (take (i + 1) files)) (sym now)
+      (subst (λ (fs : List SourceFile). AreFirsts classes fs (added firsts x)) (sym taken_is)
+      (more_firsts classes (take i files) file firsts x are (subst (λ (n : List (List ℕ)). IsFound classes n file x) names found)))
 
-  pub here_open : ((class : JClass) → IsFileOf scope file class → ⊥) → ((path : List ℕ) → FirstOpen (paths_of files) (drop i files) path → FirstOpen (paths_of files) files path)
-      → FirstOpen (paths_of files) files file.path
-  here_open none before =
-      before file.path (subst (λ (fs : List SourceFile). FirstOpen (paths_of files) fs file.path) (sym rest_is)
-      (inl ((λ class spells. none class (file_same (paths_of files) scope (λ path. sym (known path)) file class spells)), refl)))
+  pub small_here : AreSmall files → length file.bytes ≤ MAX_TOTAL_BYTES
+  small_here small = subst (λ (f : SourceFile). length f.bytes ≤ MAX_TOTAL_BYTES) (sym is) (All-get_or (λ (f : SourceFile). length f.bytes ≤ MAX_TOTAL_BYTES) files i file h small)
 
--- ---- at the end
+pub all_names : (files : List SourceFile) (i : ℕ) (names : List (List ℕ)) → length files ≤ i → names ≡ with_names [] (take i files) → names ≡ names_of files
+all_names files i names h are = are ∙ ap (with_names []) (take_all i files h)
 
-pub all_classes : (files : List SourceFile) (classes : List JClass) (i : ℕ) → length files ≤ i → ((more : List JClass) → Spell (paths_of files) (drop i files) more → Spell (paths_of files) files (classes ++ more)) → Spell (paths_of files) files classes
-all_classes files classes i h before =
-    subst (Spell (paths_of files) files) (append-nil classes) (before [] (subst (λ (fs : List SourceFile). Spell (paths_of files) fs []) (sym (drop_all i files h)) tt))
+pub all_firsts : (files : List SourceFile) (i : ℕ) (classes : List (List ℕ)) (firsts : Firsts) → length files ≤ i → classes ≡ names_of files → AreFirsts classes (take i files) firsts → AreFirsts (names_of files) files firsts
+all_firsts files i classes firsts h same are =
+    subst (λ (c : List (List ℕ)). AreFirsts c files firsts) same (subst (λ (fs : List SourceFile). AreFirsts classes fs firsts) (take_all i files h) are)
 
--- ---- what sources are
+-- ---- with the settings
 
-pub judged_least : {E : Type 0} (result : Result Project E) (sources : Sources) (path text : List ℕ) → 0 < length sources.entries → FirstOpen (paths_of sources.files) sources.files path → text ≡ path → precedes SETTINGS_FILE.now text ≡ true
-    → IfOk result (λ project. project ≡ Refused (not_built SETTINGS_FILE.now)) → IfOk result (IsJudged sources)
-judged_least (Err e) sources path text some first same before is = tt
-judged_least (Ok project) sources path text some first same before is =
-    let no_none : sources.entries ≢ [] = (λ none. absurd (omega (arith, some, ap length none))) in
-    let at : SETTINGS_FILE.now ≡ least SETTINGS_FILE.now path = sym (ap (λ b. cond b SETTINGS_FILE.now path) (ap (precedes SETTINGS_FILE.now) (sym same) ∙ before)) in
-    subst (IsJudged sources) (sym is) (SETTINGS_FILE.now, inr (inr (no_none, (path, first, at))), refl)
+pub some_open : (sources : Sources) (fault : Fault) → sources.entries ≡ [] → IsFirst (HasOpenForm (names_of sources.files)) [] sources.files (Some fault) → IsFirstOpen sources fault
+some_open sources fault none first = inl (none, first)
+
+pub entries_open : (sources : Sources) (entries : Fault) → 0 < length sources.entries → IsFirst (HasOpenForm (names_of sources.files)) [] sources.files None → entries ≡ entries_fault → IsFirstOpen sources entries
+entries_open sources entries some none is = inr (inl ((λ e. absurd (omega (arith, some, ap length e))), none, is))
+
+pub least_open : (sources : Sources) (entries first fault : Fault) → 0 < length sources.entries → IsFirst (HasOpenForm (names_of sources.files)) [] sources.files (Some first) → entries ≡ entries_fault
+    → fault ≡ least entries first → IsFirstOpen sources fault
+least_open sources entries first fault some is entries_is fault_is =
+    inr (inr ((λ e. absurd (omega (arith, some, ap length e))), (first, is, fault_is ∙ ap (λ (x : Fault). least x first) entries_is)))

@@ -9,11 +9,11 @@ use Rattle.j2k_base.specs.Lists.{Lists}
 use Rattle.j2k_io.specs.Disks.{Files, in_folder, listing, with_file, with_files, IsCut}
 use Rattle.j2k_io.proofs.Listings.{unlisted_is_absent, apart}
 use Rattle.j2k_sources.specs.Sources.{Differ}
-use Rattle.meanings.specs.declared.java.JClass.{JClass}
+use Rattle.j2k_tool.specs.declared.files.TakenFile.{TakenFile}
 use Rattle.j2k_tool.specs.declared.texts.TheConstants.{KOTLIN_END, REPORT_FILE}
 use Rattle.j2k_tool.specs.declared.writing.MadeFile.{MadeFile}
+use Rattle.j2k_tool.specs.Paths.{base_of, kotlin_path}
 use Rattle.j2k_tool.specs.Written.{placed, kotlin_file, report_file, files_of, AreFree}
-use Rattle.j2k_tool.proofs.Projects.{same_front}
 
 abbrev Made : Type 0
 Made = List (List ℕ × List ℕ)
@@ -38,45 +38,45 @@ free : (held : Files) (files : Made) → AreAbsent held files → Differ (map (�
 free held [] absent differ = tt
 free held (file ∷ files) absent differ = (absent.0, free (finite.insert held file.0 file.1) files (all_still_absent held file.0 file.1 files differ.0 absent.1) differ.1)
 
-absent_made : (held : Files) (dst : List ℕ) → listing dst held ≡ [] → (classes : List JClass) (report : MadeFile) → 0 < length report.path → AreAbsent held (map (placed dst) (map kotlin_file classes ++ report ∷ []))
+absent_made : (held : Files) (dst : List ℕ) → listing dst held ≡ [] → (taken : List TakenFile) (report : MadeFile) → 0 < length report.path → AreAbsent held (map (placed dst) (map kotlin_file taken ++ report ∷ []))
 absent_made held dst none [] report h = (unlisted_is_absent dst report.path held h none, tt)
-absent_made held dst none (class ∷ classes) report h =
-    let long : 0 < length (class.name ++ KOTLIN_END.now) = omega (arith, length-append class.name KOTLIN_END.now) in
-    (unlisted_is_absent dst (class.name ++ KOTLIN_END.now) held long none, absent_made held dst none classes report h)
+absent_made held dst none (file ∷ taken) report h =
+    let long : 0 < length (kotlin_path file.path) = omega (arith, length-append (base_of file.path) KOTLIN_END.now) in
+    (unlisted_is_absent dst (kotlin_path file.path) held long none, absent_made held dst none taken report h)
 
 -- ---- their paths differ
 
 -- a report's name is no Kotlin file's
-two_names : (class : List ℕ) → REPORT_FILE.now ≢ class ++ KOTLIN_END.now
-two_names class e =
-    let long : length class ≡ 11 = omega (arith, ap length e, length-append class KOTLIN_END.now) in
-    let byte = ap (λ (l : List ℕ). get_or l 12 0) e ∙ get_or-append_right class KOTLIN_END.now 11 12 0 long (omega arith) in
+two_names : (base : List ℕ) → REPORT_FILE.now ≢ base ++ KOTLIN_END.now
+two_names base e =
+    let long : length base ≡ 11 = omega (arith, ap length e, length-append base KOTLIN_END.now) in
+    let byte = ap (λ (l : List ℕ). get_or l 12 0) e ∙ get_or-append_right base KOTLIN_END.now 11 12 0 long (omega arith) in
     omega (arith, byte)
 
 same_place : (dst path other : List ℕ) → in_folder dst path ≡ in_folder dst other → path ≡ other
 same_place dst path other e = let tails : 47 ∷ path ≡ 47 ∷ other = append_cancel_left dst (47 ∷ path) (47 ∷ other) e in cc
 
-abbrev names_of : List JClass → List (List ℕ)
-names_of classes = map (λ class. class.name) classes
+abbrev pub kotlin_paths : List TakenFile → List (List ℕ)
+kotlin_paths taken = map (λ file. kotlin_path file.path) taken
 
-listed_name : (dst name text : List ℕ) (classes : List JClass) → Lists (map (λ file. file.0) (map (placed dst) (map kotlin_file classes ++ record { path = REPORT_FILE.now; text = text } ∷ []))) (in_folder dst (name ++ KOTLIN_END.now)) → Lists (names_of classes) name
-listed_name dst name text [] (inl same) = absurd (two_names name (same_place dst REPORT_FILE.now (name ++ KOTLIN_END.now) same))
-listed_name dst name text [] (inr there) = there
-listed_name dst name text (class ∷ classes) (inl same) = inl (same_front class.name name KOTLIN_END.now (same_place dst (class.name ++ KOTLIN_END.now) (name ++ KOTLIN_END.now) same))
-listed_name dst name text (class ∷ classes) (inr there) = inr (listed_name dst name text classes there)
+listed_path : (dst path text : List ℕ) (taken : List TakenFile) → Lists (map (λ file. file.0) (map (placed dst) (map kotlin_file taken ++ record { path = REPORT_FILE.now; text = text } ∷ []))) (in_folder dst (kotlin_path path)) → Lists (kotlin_paths taken) (kotlin_path path)
+listed_path dst path text [] (inl same) = absurd (two_names (base_of path) (same_place dst REPORT_FILE.now (kotlin_path path) same))
+listed_path dst path text [] (inr there) = there
+listed_path dst path text (file ∷ taken) (inl same) = inl (same_place dst (kotlin_path file.path) (kotlin_path path) same)
+listed_path dst path text (file ∷ taken) (inr there) = inr (listed_path dst path text taken there)
 
-made_differ : (dst text : List ℕ) (classes : List JClass) → Differ (names_of classes) → Differ (map (λ file. file.0) (map (placed dst) (map kotlin_file classes ++ record { path = REPORT_FILE.now; text = text } ∷ [])))
+made_differ : (dst text : List ℕ) (taken : List TakenFile) → Differ (kotlin_paths taken) → Differ (map (λ file. file.0) (map (placed dst) (map kotlin_file taken ++ record { path = REPORT_FILE.now; text = text } ∷ [])))
 made_differ dst text [] differ = (λ lists. lists, tt)
-made_differ dst text (class ∷ classes) differ = (λ lists. differ.0 (listed_name dst class.name text classes lists), made_differ dst text classes differ.1)
+made_differ dst text (file ∷ taken) differ = (λ lists. differ.0 (listed_path dst file.path text taken lists), made_differ dst text taken differ.1)
 
 -- the files of a conversion may be made in an empty folder
-pub files_free : (held : Option Files) (dst : List ℕ) (classes : List JClass) (made : List MadeFile) → IfSome held (λ files. (listing dst files ≡ []) × Differ (names_of classes)) → made ≡ map kotlin_file classes ++ report_file classes ∷ []
+pub files_free : (held : Option Files) (dst : List ℕ) (taken : List TakenFile) (made : List MadeFile) → IfSome held (λ files. (listing dst files ≡ []) × Differ (kotlin_paths taken)) → made ≡ map kotlin_file taken ++ report_file taken ∷ []
     → IfSome held (λ files. AreFree files (map (placed dst) made))
-files_free None dst classes made h is = tt
-files_free (Some held) dst classes made h is =
+files_free None dst taken made h is = tt
+files_free (Some held) dst taken made h is =
     let long : 0 < length REPORT_FILE.now = omega arith in
     subst (λ (m : List MadeFile). AreFree held (map (placed dst) m)) (sym is)
-    (free held (files_of dst classes) (absent_made held dst h.0 classes (report_file classes) long) (made_differ dst (report_file classes).text classes h.1))
+    (free held (files_of dst taken) (absent_made held dst h.0 taken (report_file taken) long) (made_differ dst (report_file taken).text taken h.1))
 
 -- ---- one file after another
 

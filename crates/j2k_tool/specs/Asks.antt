@@ -1,8 +1,9 @@
 -- What the words of a command line and the files of a disk ask for, and when it was done.
-use Rattle.std.specs.Prelude.{◌≡◌, ◌⊎◌, ℕ, ◌++◌, List, [], ◌∷◌, length, Option, Some, None}
+use Rattle.std.specs.Prelude.{◌≡◌, ◌⊎◌, ℕ, ◌++◌, List, [], ◌∷◌, length, map, Option, Some, None}
 use Rattle.std.specs.Fmt.{decimal}
-use Rattle.std.specs.List.{flat_map}
+use Rattle.std.specs.List.{count_by, flat_map}
 use Rattle.j2k_base.specs.declared.places.Fault.{Fault}
+use Rattle.j2k_base.specs.declared.series.SourceFile.{SourceFile}
 use Rattle.j2k_io.specs.Disks.{Files, listing, with_files, IsCut}
 use Rattle.j2k_io.specs.Sinks.{appended, IsPartOf}
 use Rattle.j2k_sources.specs.declared.limits.Excess.{Excess}
@@ -10,14 +11,15 @@ use Rattle.j2k_sources.specs.declared.loading.Sources.{Sources}
 use Rattle.j2k_sources.specs.declared.loading.Loaded.{Loaded}
 use Rattle.j2k_sources.specs.declared.loading.Loaded.TheVariants as loaded
 use Rattle.j2k_sources.specs.Sources.{IsLoaded, Differ}
-use Rattle.meanings.specs.declared.java.JClass.{JClass}
+use Rattle.j2k_tool.specs.declared.files.TakenFile.{TakenFile}
 use Rattle.j2k_tool.specs.declared.faults.TheConstants.{BLANK}
 use Rattle.j2k_tool.specs.declared.texts.TheConstants.{CONVERTED_FILES, CONVERTED_CLASSES, CONVERTED_CHOICES, USAGE, READ_FAULT, WRITE_FAULT, NO_MEMORY, NOT_EMPTY, TOO_LARGE, LINE_END}
 use Rattle.j2k_tool.specs.declared.status.Status.{Status}
 use Rattle.j2k_tool.specs.declared.status.Status.TheVariants.{Done, Refused, Usage, ReadFault, WriteFault, NoMemory, NotEmpty, TooLarge, OutFault}
-use Rattle.j2k_tool.specs.Faults.{fault_line, not_built}
-use Rattle.j2k_tool.specs.Projects.{paths_of, Takes, IsFirstOpen}
-use Rattle.j2k_tool.specs.Report.{Choices}
+use Rattle.j2k_tool.specs.Faults.{fault_line}
+use Rattle.j2k_tool.specs.Paths.{kotlin_path}
+use Rattle.j2k_tool.specs.Projects.{paths_of, Takes, IsFirstFault}
+use Rattle.j2k_tool.specs.Report.{Choices, has_class}
 use Rattle.j2k_tool.specs.Words.{words_mean}
 use Rattle.j2k_tool.specs.Written.{files_of}
 
@@ -48,15 +50,18 @@ abbrev pub done_text : ℕ → ℕ → ℕ → List ℕ
 done_text files classes choices =
     CONVERTED_FILES.now ++ decimal files ++ CONVERTED_CLASSES.now ++ decimal classes ++ CONVERTED_CHOICES.now ++ decimal choices ++ LINE_END.now
 
--- a file has one class
-abbrev pub converted : List ℕ → List JClass → Answer
-converted dst classes = record { status = Done; text = done_text (length classes) (length classes) (length (flat_map Choices classes)); files = files_of dst classes }
+-- the files, the classes that stand in them, and the choices
+abbrev pub converted_text : List TakenFile → List ℕ
+converted_text taken = done_text (length taken) (count_by has_class taken) (length (flat_map Choices taken))
+
+abbrev pub converted : List ℕ → List TakenFile → Answer
+converted dst taken = record { status = Done; text = converted_text taken; files = files_of dst taken }
 
 -- sources ask for this
 abbrev pub ConvertsSources : List ℕ → Sources → Answer → Type 0
 ConvertsSources dst sources answer =
-    ((classes : List JClass) × Takes sources classes × (answer ≡ converted dst classes))
-    ⊎ ((path : List ℕ) × IsFirstOpen sources path × (answer ≡ refused (not_built path)))
+    ((taken : List TakenFile) × Takes sources taken × (answer ≡ converted dst taken))
+    ⊎ ((fault : Fault) × IsFirstFault sources fault × (answer ≡ refused fault))
 
 -- so does what was loaded of a folder
 abbrev pub ConvertsLoaded : List ℕ → Loaded → Answer → Type 0
@@ -64,9 +69,12 @@ ConvertsLoaded dst (loaded.Whole sources) answer = ConvertsSources dst sources a
 ConvertsLoaded dst (loaded.TooLarge excess) answer = answer ≡ too_large excess
 ConvertsLoaded dst (loaded.Refused fault) answer = answer ≡ refused fault
 
--- the paths of sources differ
+-- the paths of the Kotlin files of sources differ
+abbrev pub KotlinDiffer : List SourceFile → Type 0
+KotlinDiffer files = Differ (map kotlin_path (paths_of files))
+
 abbrev pub PathsDiffer : Loaded → Type 0
-PathsDiffer (loaded.Whole sources) = Differ (paths_of sources.files)
+PathsDiffer (loaded.Whole sources) = KotlinDiffer sources.files
 PathsDiffer (loaded.TooLarge excess) = Unit {0}
 PathsDiffer (loaded.Refused fault) = Unit {0}
 

@@ -6,6 +6,7 @@ use Rattle.j2k_base.specs.declared.places.Phase.{Phase}
 use Rattle.j2k_base.specs.declared.places.Phase.TheVariants.{Settings, L, S, N, T, F, P, U, KL, KS, K}
 use Rattle.j2k_base.specs.declared.places.Place.{Place}
 use Rattle.j2k_base.specs.declared.places.Fault.{Fault}
+use Rattle.java_tree.specs.declared.tokens.Position.{Position}
 use Rattle.j2k_tool.specs.declared.faults.TheConstants.{LETTER_SETTINGS, LETTER_TOKENS, LETTER_SPELLING, LETTER_NAMES, LETTER_TYPES, LETTER_FLOW, LETTER_PROFILE, LETTER_NULLS, LETTERS_KOTLIN_TOKENS, LETTERS_KOTLIN_SPELLING, LETTER_KOTLIN, SETTINGS_TEXT, TOKEN_TEXTS, SPELLING_TEXTS, NAME_TEXTS, TYPE_TEXTS, FLOW_TEXTS, PROFILE_TEXT, NULL_TEXT, KOTLIN_TOKEN_TEXT, KOTLIN_SPELLING_TEXT, KOTLIN_TEXT, COLON, COLON_BLANK, BLANK}
 use Rattle.j2k_tool.specs.declared.texts.TheConstants.{LINE_END}
 
@@ -48,6 +49,6 @@ unfoldable pub fault_line : Fault → List ℕ
 fault_line fault =
     place_text fault.place ++ COLON_BLANK.now ++ code_text fault.phase fault.number ++ BLANK.now ++ text_of fault.phase fault.number ++ LINE_END.now
 
--- a form that isn't taken yet, at the start of a file
-abbrev pub not_built : List ℕ → Fault
-not_built path = record { phase = N; number = 0; place = record { path = path; offset = 0; line = 1; column = 1 } }
+-- a form that isn't taken yet, at a position of the file of a path
+abbrev pub not_built : List ℕ → Position → Fault
+not_built path at = record { phase = N; number = 0; place = record { path = path; offset = at.offset; line = at.line; column = at.column } }

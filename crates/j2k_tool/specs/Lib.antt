@@ -1,11 +1,11 @@
 pub mod Asks
 pub mod Faults
+pub mod Firsts
 pub mod Headline
 pub mod Messages
+pub mod Paths
 pub mod Projects
-pub mod Reading
-pub mod Refusals
 pub mod Report
-pub mod Taken
+pub mod Sources
 pub mod Words
 pub mod Written

@@ -1,92 +1,129 @@
--- The project that stands in a folder.
-use Rattle.std.specs.Prelude.{◌≡◌, ◌≢◌, ◌⊎◌, ℕ, ◌++◌, List, [], ◌∷◌, Bool, true, false, not, ◌&&◌, IsTrue, map, if◌then◌else◌}
-use Rattle.std.specs.List.{list_any}
-use Rattle.std.specs.Str.{bytes_eq}
+-- The project that stands in a folder, or its first fault.
+use Rattle.std.specs.Prelude.{◌≡◌, ◌≢◌, ◌⊎◌, ℕ, List, [], ◌∷◌, ◌++◌, Bool, map, Option, Some, None, if◌then◌else◌}
 use Rattle.std.specs.Ordering.{nat_cmp, is_lt}
 use Rattle.std.specs.Cmp.Lexicographic.{slice_cmp}
+use Rattle.j2k_base.specs.declared.places.Fault.{Fault}
 use Rattle.j2k_base.specs.declared.series.SourceFile.{SourceFile}
+use Rattle.java_tree.specs.declared.tokens.Position.{Position}
 use Rattle.j2k_io.specs.Disks.{Files}
 use Rattle.j2k_settings.specs.declared.reading.TheConstants.{SETTINGS_FILE}
 use Rattle.j2k_sources.specs.declared.loading.Sources.{Sources}
-use Rattle.j2k_sources.specs.declared.loading.TheConstants.{JAVA_END}
 use Rattle.j2k_sources.specs.Sources.{HasSources}
-use Rattle.meanings.specs.declared.java.JStmt.{JStmt}
-use Rattle.meanings.specs.declared.java.JStmt.TheVariants.{Local, Print}
-use Rattle.meanings.specs.declared.java.JClass.{JClass}
-use Rattle.meanings.specs.JSpells.{java_text}
+use Rattle.meanings.specs.declared.java.JFile.{JFile}
+use Rattle.j2k_tool.specs.declared.files.TakenFile.{TakenFile}
+use Rattle.j2k_tool.specs.declared.files.Found.{Found}
+use Rattle.j2k_tool.specs.declared.files.Found.TheVariants as found
+use Rattle.j2k_tool.specs.declared.project.Firsts.{Firsts}
 use Rattle.j2k_tool.specs.declared.project.Project.{Project}
 use Rattle.j2k_tool.specs.declared.project.Project.TheVariants.{Taken, Refused}
-use Rattle.j2k_tool.specs.declared.project.Reading.{Reading}
-use Rattle.j2k_tool.specs.declared.project.Reading.TheVariants.{All, Open}
 use Rattle.j2k_tool.specs.Faults.{not_built}
-use Rattle.j2k_tool.specs.Taken.{is_taken}
+use Rattle.j2k_tool.specs.Firsts.{FirstIn, NoneIn}
+use Rattle.j2k_tool.specs.Paths.{class_name, with_name, names_of}
+use Rattle.j2k_tool.specs.Sources.{HasTokenFault, HasSpellingFault, HasOpenForm, IsTaken}
 
 abbrev pub paths_of : List SourceFile → List (List ℕ)
 paths_of files = map (λ file. file.path) files
 
--- a local is named as a class of the project, whose file has one of these paths
-abbrev pub names_class : List (List ℕ) → JStmt → Bool
-names_class paths (Local name value) = list_any (bytes_eq (name ++ JAVA_END.now)) paths
-names_class paths (Print value) = false
+-- the files of a project are taken, behind files of classes of these names
+abbrev pub AreTaken : List (List ℕ) → List (List ℕ) → List SourceFile → List TakenFile → Type 0
+AreTaken classes earlier [] [] = Unit {0}
+AreTaken classes earlier (file ∷ files) (taken ∷ more) = IsTaken classes earlier file taken × AreTaken classes (with_name earlier (class_name file.path)) files more
+AreTaken classes earlier [] (taken ∷ more) = ⊥
+AreTaken classes earlier (file ∷ files) [] = ⊥
 
--- no local is
-abbrev pub are_apart : List (List ℕ) → List JStmt → Bool
-are_apart paths [] = true
-are_apart paths (statement ∷ more) = not (names_class paths statement) && are_apart paths more
+-- ---- faults
 
--- Among files of these paths a file, named as its class, spells this class; it is taken, and no local is named as a class of the project.
-pub record IsFileOf (paths : List (List ℕ)) (file : SourceFile) (class : JClass) : Type 0 where
-  pub named : file.path ≡ class.name ++ JAVA_END.now
-  pub text : file.bytes ≡ java_text class
-  pub taken : IsTrue (is_taken class)
-  pub apart : IsTrue (are_apart paths class.main)
+-- the start of a file
+abbrev pub start : Position
+start = record { offset = 0; line = 1; column = 1 }
 
--- a file that spells no such class is an open form
-abbrev pub IsOpen : List (List ℕ) → SourceFile → Type 0
-IsOpen paths file = (class : JClass) → IsFileOf paths file class → ⊥
-
--- the files spell these classes, one each
-abbrev pub Spell : List (List ℕ) → List SourceFile → List JClass → Type 0
-Spell paths [] [] = Unit {0}
-Spell paths (file ∷ files) (class ∷ classes) = IsFileOf paths file class × Spell paths files classes
-Spell paths [] (class ∷ classes) = ⊥
-Spell paths (file ∷ files) [] = ⊥
-
--- this is the path of the first open form among the files, which stand in the order of their paths
-abbrev pub FirstOpen : List (List ℕ) → List SourceFile → List ℕ → Type 0
-FirstOpen paths [] path = ⊥
-FirstOpen paths (file ∷ files) path = (IsOpen paths file × (path ≡ file.path)) ⊎ (((class : JClass) × IsFileOf paths file class) × FirstOpen paths files path)
+-- Entries aren't taken yet: where the settings name one they are an open form.
+abbrev pub entries_fault : Fault
+entries_fault = not_built SETTINGS_FILE.now start
 
 -- in the order of the bytes
 abbrev pub precedes : List ℕ → List ℕ → Bool
 precedes a b = is_lt (slice_cmp nat_cmp a b)
 
-abbrev pub least : List ℕ → List ℕ → List ℕ
-least a b = if precedes a b then a else b
+-- the fault of the first of two files
+abbrev pub least : Fault → Fault → Fault
+least a b = if precedes a.place.path b.place.path then a else b
 
--- The path of the first open form of a project: of the least of its open files, and of the settings where they name an entry, since entries aren't taken yet.
-abbrev pub IsFirstOpen : Sources → List ℕ → Type 0
-IsFirstOpen sources path =
-    ((sources.entries ≡ []) × FirstOpen (paths_of sources.files) sources.files path)
-    ⊎ ((sources.entries ≢ []) × ((classes : List JClass) × Spell (paths_of sources.files) sources.files classes) × (path ≡ SETTINGS_FILE.now))
-    ⊎ ((sources.entries ≢ []) × ((first : List ℕ) × FirstOpen (paths_of sources.files) sources.files first × (path ≡ least SETTINGS_FILE.now first)))
+-- The first open form of a project, where the settings take part by their path.
+abbrev pub IsFirstOpen : Sources → Fault → Type 0
+IsFirstOpen sources fault =
+    ((sources.entries ≡ []) × FirstIn (HasOpenForm (names_of sources.files)) [] sources.files fault)
+    ⊎ ((sources.entries ≢ []) × NoneIn (HasOpenForm (names_of sources.files)) [] sources.files × (fault ≡ entries_fault))
+    ⊎ ((sources.entries ≢ []) × ((first : Fault) × FirstIn (HasOpenForm (names_of sources.files)) [] sources.files first × (fault ≡ least entries_fault first)))
 
--- sources without entries, whose files spell these classes
-abbrev pub Takes : Sources → List JClass → Type 0
-Takes sources classes = (sources.entries ≡ []) × Spell (paths_of sources.files) sources.files classes
+-- The first fault of a project is one of the tokens of its files; where none has one, one of their spelling; and else an open form.
+abbrev pub IsFirstFault : Sources → Fault → Type 0
+IsFirstFault sources fault =
+    FirstIn HasTokenFault [] sources.files fault
+    ⊎ (NoneIn HasTokenFault [] sources.files × FirstIn HasSpellingFault [] sources.files fault)
+    ⊎ (NoneIn HasTokenFault [] sources.files × NoneIn HasSpellingFault [] sources.files × IsFirstOpen sources fault)
 
--- The files under a folder, within the limits, spell these classes, and are taken.
-pub record IsProject (src : List ℕ) (files : Files) (classes : List JClass) : Type 0 where
+-- ---- projects
+
+-- sources without entries, whose files are taken
+abbrev pub Takes : Sources → List TakenFile → Type 0
+Takes sources taken = (sources.entries ≡ []) × AreTaken (names_of sources.files) [] sources.files taken
+
+-- The files under a folder, within the limits, are taken.
+pub record IsProject (src : List ℕ) (files : Files) (taken : List TakenFile) : Type 0 where
   pub sources : Sources
   pub has : HasSources src files sources.entries sources.files
-  pub takes : Takes sources classes
+  pub takes : Takes sources taken
+
+-- the typed trees of files
+abbrev pub trees_of : List TakenFile → List JFile
+trees_of taken = map (λ file. file.typed.file) taken
 
 -- what sources are
 abbrev pub IsJudged : Sources → Project → Type 0
-IsJudged sources (Taken classes) = Takes sources classes
-IsJudged sources (Refused fault) = (path : List ℕ) × IsFirstOpen sources path × (fault ≡ not_built path)
+IsJudged sources (Taken taken) = Takes sources taken
+IsJudged sources (Refused fault) = IsFirstFault sources fault
 
--- what the files are
-abbrev pub IsReading : List SourceFile → Reading → Type 0
-IsReading files (All classes) = Spell (paths_of files) files classes
-IsReading files (Open path) = FirstOpen (paths_of files) files path
+-- ---- file after file
+
+-- a fault, or none
+abbrev pub IsFirst : (List (List ℕ) → SourceFile → Fault → Type 0) → List (List ℕ) → List SourceFile → Option Fault → Type 0
+IsFirst faults earlier files None = NoneIn faults earlier files
+IsFirst faults earlier files (Some fault) = FirstIn faults earlier files fault
+
+-- the first of each kind among files of a project whose classes have these names, and where there is none the files that are taken
+pub record AreFirsts (classes : List (List ℕ)) (files : List SourceFile) (firsts : Firsts) : Type 0 where
+  pub tokens : IsFirst HasTokenFault [] files firsts.tokens
+  pub spelling : IsFirst HasSpellingFault [] files firsts.spelling
+  pub form : IsFirst (HasOpenForm classes) [] files firsts.form
+  pub taken : firsts.tokens ≡ None → firsts.spelling ≡ None → firsts.form ≡ None → AreTaken classes [] files firsts.taken
+
+-- the fault of each kind that is found
+abbrev pub token_fault : Found → Option Fault
+token_fault (found.Tokens fault) = Some fault
+token_fault _ = None
+
+abbrev pub spelling_fault : Found → Option Fault
+spelling_fault (found.Spelling fault) = Some fault
+spelling_fault _ = None
+
+abbrev pub open_form : Found → Option Fault
+open_form (found.Open fault) = Some fault
+open_form _ = None
+
+abbrev pub taken_file : Found → List TakenFile
+taken_file (found.Taken taken) = taken ∷ []
+taken_file _ = []
+
+-- the first of two that there is
+abbrev pub earliest : Option Fault → Option Fault → Option Fault
+earliest None b = b
+earliest (Some a) b = Some a
+
+abbrev pub added : Firsts → Found → Firsts
+added firsts found = record {
+  tokens = earliest firsts.tokens (token_fault found);
+  spelling = earliest firsts.spelling (spelling_fault found);
+  form = earliest firsts.form (open_form found);
+  taken = firsts.taken ++ taken_file found;
+}

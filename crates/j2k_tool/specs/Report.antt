@@ -1,14 +1,16 @@
 -- The choices of a conversion, and the report on them.
-use Rattle.std.specs.Prelude.{ℕ, List, [], ◌∷◌, ◌++◌, length}
+use Rattle.std.specs.Prelude.{ℕ, List, [], ◌∷◌, ◌++◌, length, Option, Some, None, Bool, is_some}
 use Rattle.std.specs.Fmt.{decimal}
 use Rattle.std.specs.List.{flat_map}
 use Rattle.j2k_base.specs.declared.choices.ChoiceKind.{ChoiceKind}
 use Rattle.j2k_base.specs.declared.choices.ChoiceKind.TheVariants.{Companion, Property, Rename, Widen, Nullable, When, Chain, Range, While, Bind, Copy, Fold, Drop}
 use Rattle.j2k_base.specs.declared.choices.Choice.{Choice}
+use Rattle.java_tree.specs.declared.tokens.Position.{Position}
 use Rattle.meanings.specs.declared.java.JClass.{JClass}
+use Rattle.meanings.specs.declared.java.JMain.{JMain}
+use Rattle.j2k_tool.specs.declared.files.TakenFile.{TakenFile}
 use Rattle.j2k_tool.specs.declared.report.TheConstants.{REPORT_FILES, REPORT_CHOICES, KIND_COMPANION, KIND_PROPERTY, KIND_RENAME, KIND_WIDEN, KIND_NULLABLE, KIND_WHEN, KIND_CHAIN, KIND_RANGE, KIND_WHILE, KIND_BIND, KIND_COPY, KIND_FOLD, KIND_DROP}
 use Rattle.j2k_tool.specs.declared.faults.TheConstants.{BLANK}
-use Rattle.j2k_sources.specs.declared.loading.TheConstants.{JAVA_END}
 use Rattle.j2k_tool.specs.declared.texts.TheConstants.{LINE_END}
 use Rattle.j2k_tool.specs.Faults.{place_text}
 
@@ -36,12 +38,28 @@ unfoldable pub ReportText : ℕ → List Choice → List ℕ
 ReportText files choices =
     REPORT_FILES.now ++ decimal files ++ REPORT_CHOICES.now ++ decimal (length choices) ++ LINE_END.now ++ flat_map choice_line choices
 
--- the choices of a class whose one member is its static `main`: it has a companion; the place is that of its name
-abbrev pub Choices : JClass → List Choice
-Choices class =
-    record {
-      kind = Companion;
-      place = record { path = class.name ++ JAVA_END.now; offset = 13; line = 1; column = 14 };
-      text = class.name;
-    }
-    ∷ []
+-- a companion, at a position of the file of a path
+abbrev pub companion : List ℕ → Position → List ℕ → Choice
+companion path at name = record {
+  kind = Companion;
+  place = record { path = path; offset = at.offset; line = at.line; column = at.column };
+  text = name;
+}
+
+-- a class has one for its static `main`
+abbrev pub companions : List ℕ → Position → List ℕ → Option JMain → List Choice
+companions path at name None = []
+companions path at name (Some main) = companion path at name ∷ []
+
+abbrev pub class_choices : List ℕ → Option Position → Option JClass → List Choice
+class_choices path (Some at) (Some class) = companions path at class.name class.main
+class_choices path (Some at) None = []
+class_choices path None class = []
+
+-- the choices of a file that is taken, at the name of its class
+abbrev pub Choices : TakenFile → List Choice
+Choices taken = class_choices taken.path taken.typed.at taken.typed.file.class
+
+-- a class stands in the file
+unfoldable pub has_class : TakenFile → Bool
+has_class taken = is_some taken.typed.file.class

@@ -1,21 +1,20 @@
 // What the words ask for is done, but for printing.
-ghost use Rattle.std.specs.Prelude.{◌≡◌, ◌≢◌, ◌++◌, [], length, map, IfOk, OnOk, OnErr, IfSome, IsErrOf, IsOkAnd};
-ghost use Rattle.std.specs.List.{flat_map};
+ghost use Rattle.std.specs.Prelude.{◌≡◌, ◌≢◌, ◌++◌, [], map, IfOk, OnOk, OnErr, IfSome, IsErrOf, IsOkAnd};
 ghost use Rattle.std.specs.Fmt.{decimal};
 ghost use Rattle.j2k_io.specs.Disks.{listing, with_files, IsCut};
 ghost use Rattle.j2k_sources.specs.Causes.{HasCauses};
-ghost use Rattle.j2k_sources.specs.Sources.{Differ};
-ghost use Rattle.j2k_tool.specs.Asks.{Asks, AsksOf, ConvertsLoaded, ConvertsSources, Answered, Stopped, IsAnswer, PathsDiffer, done_text as done_text_by, too_large_text as too_large_text_by};
+ghost use Rattle.j2k_sources.specs.Sources.{Differ, AreSmall, IsSmall};
+ghost use Rattle.j2k_tool.specs.Asks.{Asks, AsksOf, ConvertsLoaded, ConvertsSources, Answered, Stopped, IsAnswer, KotlinDiffer, PathsDiffer, converted_text, done_text as done_text_by, too_large_text as too_large_text_by};
 ghost use Rattle.j2k_tool.specs.Faults.{fault_line};
 ghost use Rattle.j2k_tool.specs.Messages.{message_text};
-ghost use Rattle.j2k_tool.specs.Projects.{paths_of};
-ghost use Rattle.j2k_tool.specs.Report.{Choices as choices_by};
+ghost use Rattle.j2k_tool.specs.Paths.{kotlin_path};
 ghost use Rattle.j2k_tool.specs.Words.{words_mean};
 ghost use Rattle.j2k_tool.specs.Written.{files_of as files_by};
 
 use crate::faults::{BLANK, line_of, push_number};
+use crate::files::TakenFile;
 use crate::project::{Project, judge};
-use crate::report::choices_of;
+use crate::report::{choices_of, classes_in};
 use crate::status::Status;
 use crate::texts::{
     CONVERTED_CHOICES, CONVERTED_CLASSES, CONVERTED_FILES, LINE_END, NOT_EMPTY, TOO_LARGE, USAGE,
@@ -25,7 +24,6 @@ use crate::writing::{files_of, write_files};
 use j2k_base::{Fault, NoMemory, Text, Words};
 use j2k_io::Disk;
 use j2k_sources::{Excess, Halt, Loaded, Sources, list, load};
-use meanings::java::JClass;
 use std::alloc::Global;
 
 /// A text that is printed.
@@ -110,7 +108,8 @@ fn convert_loaded<D: Disk>(
     loaded: &Loaded,
     disk: &mut D,
 ) -> Result<Answer, Halt>
-    requires { IfSome (D.held disk.old) (λ files. (listing dst.now files ≡ []) × PathsDiffer loaded.now) }
+    requires differ { IfSome (D.held disk.old) (λ files. (listing dst.now files ≡ []) × PathsDiffer loaded.now) }
+    requires small { IsSmall loaded.now }
     ensures answered { IfOk result (λ a. Answered (ConvertsLoaded dst.now loaded.now) a.status (message_text a.message) (D.held disk.old) (D.held disk.new)) }
     ensures not_usage { IfOk result (λ a. a.status ≢ Status.Usage) }
     ensures refusal { IfOk result (λ a. IsAnswer a.status × (a.status ≢ Status.Done → D.held disk.new ≡ D.held disk.old)) }
@@ -155,7 +154,8 @@ fn convert_sources<D: Disk>(
     sources: &Sources,
     disk: &mut D,
 ) -> Result<Answer, Halt>
-    requires { IfSome (D.held disk.old) (λ files. (listing dst.now files ≡ []) × Differ (paths_of sources.now.files)) }
+    requires differ { IfSome (D.held disk.old) (λ files. (listing dst.now files ≡ []) × KotlinDiffer sources.now.files) }
+    requires small { AreSmall sources.now.files }
     ensures answered { IfOk result (λ a. Answered (ConvertsSources dst.now sources.now) a.status (message_text a.message) (D.held disk.old) (D.held disk.new)) }
     ensures not_usage { IfOk result (λ a. a.status ≢ Status.Usage) }
     ensures refusal { IfOk result (λ a. IsAnswer a.status × (a.status ≢ Status.Done → D.held disk.new ≡ D.held disk.old)) }
@@ -164,7 +164,7 @@ fn convert_sources<D: Disk>(
     ensures causes { HasCauses (D.reads disk.old) (D.reads disk.new) (D.writes disk.old) (D.writes disk.new) result }
 {
     match judge(alloc, sources)? {
-        Project::Taken(classes) => write_project(alloc, dst, classes.as_slice(), disk),
+        Project::Taken(taken) => write_project(alloc, dst, taken.as_slice(), disk),
         Project::Refused(fault) => Ok(refusal_of(alloc, &fault)?),
     }
 }
@@ -174,19 +174,19 @@ fn convert_sources<D: Disk>(
 fn write_project<D: Disk>(
     alloc: Global,
     dst: &Text,
-    classes: &[JClass],
+    taken: &[TakenFile],
     disk: &mut D,
 ) -> Result<Answer, Halt>
-    requires { IfSome (D.held disk.old) (λ files. (listing dst.now files ≡ []) × Differ (map (λ class. class.name) classes.now)) }
-    ensures answer { IfOk result (λ a. (a.status ≡ Status.Done) × (message_text a.message ≡ done_text_by (length classes.now) (length classes.now) (length (flat_map choices_by classes.now)))) }
-    ensures made { OnOk result (D.held disk.new ≡ with_files (D.held disk.old) (files_by dst.now classes.now)) }
-    ensures cut { OnErr result (IsCut (D.held disk.old) (files_by dst.now classes.now) (D.held disk.new)) }
+    requires { IfSome (D.held disk.old) (λ files. (listing dst.now files ≡ []) × Differ (map (λ file. kotlin_path file.path) taken.now)) }
+    ensures answer { IfOk result (λ a. (a.status ≡ Status.Done) × (message_text a.message ≡ converted_text taken.now)) }
+    ensures made { OnOk result (D.held disk.new ≡ with_files (D.held disk.old) (files_by dst.now taken.now)) }
+    ensures cut { OnErr result (IsCut (D.held disk.old) (files_by dst.now taken.now) (D.held disk.new)) }
     ensures no_read { IsErrOf result Halt.Read → ⊥ }
     ensures causes { HasCauses (D.reads disk.old) (D.reads disk.new) (D.writes disk.old) (D.writes disk.new) result }
 {
-    let choices = choices_of(alloc, classes)?;
-    let message = done_text(alloc, classes.len(), classes.len(), choices.len())?;
-    let files = files_of(alloc, classes, choices.as_slice())?;
+    let choices = choices_of(alloc, taken)?;
+    let message = done_text(alloc, taken.len(), classes_in(taken), choices.len())?;
+    let files = files_of(alloc, taken, choices.as_slice())?;
     write_files(alloc, dst, files.as_slice(), disk)?;
     Ok(Answer {
         status: Status::Done,

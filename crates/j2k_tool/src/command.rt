@@ -1,11 +1,11 @@
 // The top call.
 ghost use Rattle.std.specs.Prelude.{◌≡◌, ◌⊎◌, ◌≤◌, List, ℕ, [], OnOk, IfSome};
-ghost use Rattle.meanings.specs.declared.java.JClass.{JClass};
 ghost use Rattle.j2k_io.specs.Causes.{Rose};
 ghost use Rattle.j2k_io.specs.Disks.{listing};
 ghost use Rattle.j2k_io.specs.Sinks.{IsPartOf};
 ghost use Rattle.j2k_sources.specs.declared.limits.Excess.{Excess};
 ghost use Rattle.j2k_sources.specs.Sources.{Exceeds};
+ghost use Rattle.j2k_tool.specs.declared.files.TakenFile.{TakenFile};
 ghost use Rattle.j2k_tool.specs.Asks.{Answer as Asked, Asks, Told, Untold, Stopped, IsAnswer, IsUnless, IsGiven, MayTell, KeepsFiles};
 ghost use Rattle.j2k_tool.specs.Headline.{Headline};
 ghost use Rattle.j2k_tool.specs.Projects.{IsProject};
@@ -33,7 +33,7 @@ pub fn run<D: Disk, S: Sink>(alloc: Global, words: &Words, disk: &mut D, out: &m
     // What they ask for is answered, unless memory ran out or a counted fault came.
     ensures complete { IfSome (D.held disk.old) (λ files. (asked : Asked) → Asks words.now files asked →
         IsUnless asked.status result (Rose (D.reads disk.old) (D.reads disk.new)) (Rose (D.writes disk.old) (D.writes disk.new)) (Rose (S.faults out.old) (S.faults out.new))) }
-    ensures converts { IfSome (D.held disk.old) (λ files. (src dst : List ℕ) (classes : List JClass) → words_mean words.now ≡ Some (src, dst) → listing dst files ≡ [] → IsProject src files classes →
+    ensures converts { IfSome (D.held disk.old) (λ files. (src dst : List ℕ) (taken : List TakenFile) → words_mean words.now ≡ Some (src, dst) → listing dst files ≡ [] → IsProject src files taken →
         IsUnless Status.Done result (Rose (D.reads disk.old) (D.reads disk.new)) (Rose (D.writes disk.old) (D.writes disk.new)) (Rose (S.faults out.old) (S.faults out.new))) }
     ensures exceeds { IfSome (D.held disk.old) (λ files. (src dst : List ℕ) (excess : Excess) → words_mean words.now ≡ Some (src, dst) → listing dst files ≡ [] → Exceeds src files excess →
         IsUnless Status.TooLarge result (Rose (D.reads disk.old) (D.reads disk.new)) (Rose (D.writes disk.old) (D.writes disk.new)) (Rose (S.faults out.old) (S.faults out.new))) }

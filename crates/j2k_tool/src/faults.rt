@@ -6,6 +6,7 @@ ghost use Rattle.j2k_tool.specs.Faults.{letters_of as letters_by, text_of as tex
 
 use crate::texts::LINE_END;
 use j2k_base::{Fault, NoMemory, Phase, Place, Text};
+use java_tree::Position;
 use std::alloc::Global;
 
 // The letters of each phase's codes.
@@ -182,20 +183,18 @@ pub fn line_of(alloc: Global, fault: &Fault) -> Result<Text, NoMemory>
     Ok(line)
 }
 
-/// A form that isn't taken yet, at the start of a file.
-pub fn not_built(alloc: Global, path: &str) -> Result<Fault, NoMemory>
-    ensures { IfOk result (λ fault. fault ≡ not_built_at path.now) }
+/// A form that isn't taken yet, at a position of the file of a path.
+pub fn not_built(path: Text, at: Position) -> Fault
+    ensures { result ≡ not_built_at path at }
 {
-    let path = Text::from_str(alloc, path)?;
-    let place = Place {
-        path,
-        offset: 0,
-        line: 1,
-        column: 1,
-    };
-    Ok(Fault {
+    Fault {
         phase: Phase::N,
         number: 0,
-        place,
-    })
+        place: Place {
+            path,
+            offset: at.offset,
+            line: at.line,
+            column: at.column,
+        },
+    }
 }

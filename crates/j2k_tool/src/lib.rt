@@ -5,19 +5,19 @@ mod answers;
 mod command;
 mod conversion;
 mod faults;
+mod files;
+mod paths;
 mod printing;
 mod project;
-mod reading;
 mod report;
-mod scope;
 mod status;
-mod taken;
 mod texts;
 mod words;
 mod writing;
 
 pub use command::run;
 pub use status::Status;
+
 
 #[cfg(test)]
 mod tests;

@@ -1,30 +1,93 @@
 // The canonical text of a Kotlin tree.
-ghost use Rattle.std.specs.Prelude.{◌≡◌, ◌++◌, OnOk, IfOk};
+ghost use Rattle.std.specs.Prelude.{◌≡◌, ◌++◌, Some, OnOk, IfOk};
 ghost use Rattle.std.specs.List.{flat_map};
-ghost use Rattle.meanings.specs.JSpells.{operator_text};
-ghost use Rattle.meanings.specs.KText.{operand_text, expression_text, statement_text, KText};
+ghost use Rattle.meanings.specs.KText.{operator_text, expression_text, statement_text, main_text, class_text, part_text, package_text, KText};
 
 use crate::faults::push_number;
-use j2k_base::{NoMemory, Text};
+use j2k_base::{Name, NoMemory, Text};
 use meanings::kotlin::{
-    KClass, KExpr, KOTLIN_CLASS, KOTLIN_FOOT, KOTLIN_IS, KOTLIN_MAIN, KOTLIN_PRINT,
-    KOTLIN_PRINT_END, KOTLIN_VAL, KOTLIN_VAL_END, KOperand, KStmt,
+    KClass, KExpr, KFile, KMain, KOTLIN_CLASS, KOTLIN_CLASS_END, KOTLIN_CLASS_OPEN, KOTLIN_DOT,
+    KOTLIN_EMPTY_LINE, KOTLIN_IS, KOTLIN_MAIN, KOTLIN_MAIN_END, KOTLIN_MAIN_OPEN, KOTLIN_PACKAGE,
+    KOTLIN_PACKAGE_END, KOTLIN_PRINT, KOTLIN_PRINT_END, KOTLIN_VAL, KOTLIN_VAL_END, KStmt,
 };
 use meanings::operators::{MINUS, Operator, PLUS, TIMES};
 use std::alloc::Global;
 
+const OPEN: &str = "(";
+
+const CLOSE: &str = ")";
+
 /// The text of a Kotlin file.
 #[tactic(auto, unfolding(meanings::specs::KText::KText))]
-pub fn text_of(alloc: Global, class: &KClass) -> Result<Text, NoMemory>
-    ensures { IfOk result (λ text. text ≡ KText class.now) }
+pub fn text_of(alloc: Global, file: &KFile) -> Result<Text, NoMemory>
+    ensures { IfOk result (λ text. text ≡ KText file.now) }
 {
     let mut out = Text::new(alloc);
+    match (file.package.as_slice(), &file.class) {
+        ([], None) => {}
+        ([], Some(class)) => push_class(alloc, &mut out, class)?,
+        ([first, parts @ ..], None) => push_package(&mut out, first, parts)?,
+        ([first, parts @ ..], Some(class)) => {
+            push_package(&mut out, first, parts)?;
+            out.push_str(KOTLIN_EMPTY_LINE)?;
+            push_class(alloc, &mut out, class)?;
+        }
+    }
+    Ok(out)
+}
+
+fn push_package(out: &mut Text, first: &Name, parts: &[Name]) -> Result<(), NoMemory>
+    ensures { OnOk result (out.new ≡ out.old ++ package_text first.now parts.now) }
+{
+    out.push_str(KOTLIN_PACKAGE)?;
+    out.push_str(first.as_str())?;
+    push_parts(out, parts)?;
+    out.push_str(KOTLIN_PACKAGE_END)
+}
+
+fn push_parts(out: &mut Text, parts: &[Name]) -> Result<(), NoMemory>
+    ensures { OnOk result (out.new ≡ out.old ++ flat_map part_text parts.now) }
+{
+    for part in parts {
+        push_part(out, part)?;
+    }
+    Ok(())
+}
+
+fn push_part(out: &mut Text, part: &Name) -> Result<(), NoMemory>
+    ensures { OnOk result (out.new ≡ out.old ++ part_text part.now) }
+{
+    out.push_str(KOTLIN_DOT)?;
+    out.push_str(part.as_str())
+}
+
+fn push_class(alloc: Global, out: &mut Text, class: &KClass) -> Result<(), NoMemory>
+    ensures { OnOk result (out.new ≡ out.old ++ class_text class.now) }
+{
     out.push_str(KOTLIN_CLASS)?;
     out.push_str(class.name.as_str())?;
+    out.push_str(KOTLIN_CLASS_OPEN)?;
+    push_main(alloc, out, &class.main)?;
+    out.push_str(KOTLIN_CLASS_END)
+}
+
+fn push_main(alloc: Global, out: &mut Text, main: &Option<KMain>) -> Result<(), NoMemory>
+    ensures { OnOk result (out.new ≡ out.old ++ main_text main.now) }
+{
+    match main {
+        Some(main) => push_some_main(alloc, out, main),
+        None => Ok(()),
+    }
+}
+
+fn push_some_main(alloc: Global, out: &mut Text, main: &KMain) -> Result<(), NoMemory>
+    ensures { OnOk result (out.new ≡ out.old ++ main_text (Some main.now)) }
+{
     out.push_str(KOTLIN_MAIN)?;
-    push_statements(alloc, &mut out, class.main.as_slice())?;
-    out.push_str(KOTLIN_FOOT)?;
-    Ok(out)
+    out.push_str(main.parameter.as_str())?;
+    out.push_str(KOTLIN_MAIN_OPEN)?;
+    push_statements(alloc, out, main.body.as_slice())?;
+    out.push_str(KOTLIN_MAIN_END)
 }
 
 fn push_statements(alloc: Global, out: &mut Text, statements: &[KStmt]) -> Result<(), NoMemory>
@@ -55,25 +118,23 @@ fn push_statement(alloc: Global, out: &mut Text, statement: &KStmt) -> Result<()
     }
 }
 
+#[tactic(auto, using(crate::proofs::Forms::texts))]
 fn push_expression(alloc: Global, out: &mut Text, value: &KExpr) -> Result<(), NoMemory>
     ensures { OnOk result (out.new ≡ out.old ++ expression_text value.now) }
 {
     match value {
-        KExpr::Operand(a) => push_operand(alloc, out, a),
-        KExpr::Binary(a, operator, b) => {
-            push_operand(alloc, out, a)?;
-            out.push_str(sign(*operator))?;
-            push_operand(alloc, out, b)
+        KExpr::Local(name) => out.push_str(name.as_str()),
+        KExpr::Number(number) => push_number(alloc, out, u64::from(*number)),
+        KExpr::Paren(inner) => {
+            out.push_str(OPEN)?;
+            push_expression(alloc, out, inner.get())?;
+            out.push_str(CLOSE)
         }
-    }
-}
-
-fn push_operand(alloc: Global, out: &mut Text, operand: &KOperand) -> Result<(), NoMemory>
-    ensures { OnOk result (out.new ≡ out.old ++ operand_text operand.now) }
-{
-    match operand {
-        KOperand::Local(name) => out.push_str(name.as_str()),
-        KOperand::Number(number) => push_number(alloc, out, u64::from(*number)),
+        KExpr::Binary(a, operator, b) => {
+            push_expression(alloc, out, a.get())?;
+            out.push_str(sign(*operator))?;
+            push_expression(alloc, out, b.get())
+        }
     }
 }
 

@@ -1,50 +1,94 @@
-// The classes of a project's files.
-ghost use Rattle.std.specs.Prelude.{◌≡◌, ◌++◌, List, ℕ, IfOk, IfSome, IfNone, false};
-ghost use Rattle.std.specs.List.{list_any};
-ghost use Rattle.std.specs.Str.{bytes_eq};
-ghost use Rattle.meanings.specs.declared.java.JClass.{JClass};
-ghost use Rattle.j2k_tool.specs.Faults.{not_built as not_built_at};
-ghost use Rattle.j2k_tool.specs.Projects.{paths_of as paths_by, names_class as names_class_by, precedes as precedes_by, are_apart as are_apart_by, IsFileOf, IsReading, IsJudged};
-ghost use Rattle.j2k_tool.specs.Taken.{is_name};
+// The files of a project.
+ghost use Rattle.std.specs.Prelude.{◌≡◌, [], Some, None, IfOk, OnOk, IfSome, IfNone};
+ghost use Rattle.j2k_sources.specs.Sources.{AreSmall};
+ghost use Rattle.j2k_tool.specs.Projects.{precedes as precedes_by, least as least_by, entries_fault as entries_fault_by, earliest, added, AreFirsts, IsFirstOpen, IsFirst, IsJudged};
+ghost use Rattle.j2k_tool.specs.Paths.{class_name as class_name_by, with_name, names_of as names_by};
+ghost use Rattle.j2k_tool.specs.Sources.{HasOpenForm};
 
 use crate::faults::not_built;
-use crate::reading::{name_of, parse};
-use crate::scope::Scope;
-use j2k_base::{Fault, Name, NoMemory, Series, SourceFile, Stop, Text};
+use crate::files::{Found, TakenFile, look};
+use crate::paths::class_name;
+use j2k_base::{Fault, NoMemory, Series, SourceFile, Text};
 use j2k_settings::SETTINGS_FILE;
-use j2k_sources::{JAVA_END, Sources};
-use meanings::java::{JClass, JStmt};
+use j2k_sources::Sources;
+use java_taken::Names;
+use java_tree::Position;
 use std::alloc::Global;
 
-/// The classes of a project, in the order of their files' paths.
-pub type JClasses = Series<JClass>;
+/// The files of a project that are taken, in the order of their paths.
+pub type TakenFiles = Series<TakenFile>;
 
 /// What sources are: a project that is taken, or one that is refused with its first fault.
 #[derive(Debug, Drop)]
 pub enum Project {
-    Taken(JClasses),
+    Taken(TakenFiles),
     Refused(Fault),
 }
 
 /// Judges the files and the entries of a project.
 pub fn judge(alloc: Global, sources: &Sources) -> Result<Project, NoMemory>
+    requires { AreSmall sources.now.files }
     ensures { IfOk result (IsJudged sources.now) }
 {
-    match read_classes(alloc, sources.files.as_slice())? {
-        Reading::All(classes) => {
-            if sources.entries.len() > 0 {
-                refused(alloc, SETTINGS_FILE)
-            } else {
-                Ok(Project::Taken(classes))
-            }
-        }
-        Reading::Open(path) => {
-            if sources.entries.len() > 0 && precedes(SETTINGS_FILE, path.as_str()) {
-                refused(alloc, SETTINGS_FILE)
-            } else {
-                refused(alloc, path.as_str())
-            }
-        }
+    let classes = names_of(alloc, sources.files.as_slice())?;
+    let Firsts {
+        tokens,
+        spelling,
+        form,
+        taken,
+    } = firsts_of(alloc, &classes, sources.files.as_slice())?;
+    if let Some(fault) = tokens {
+        return Ok(Project::Refused(fault));
+    }
+    if let Some(fault) = spelling {
+        return Ok(Project::Refused(fault));
+    }
+    match first_open(alloc, sources, form)? {
+        Some(fault) => Ok(Project::Refused(fault)),
+        None => Ok(Project::Taken(taken)),
+    }
+}
+
+/// The first open form of a project, by that of its files: the settings take part by their path.
+fn first_open(
+    alloc: Global,
+    sources: &Sources,
+    form: Option<Fault>,
+) -> Result<Option<Fault>, NoMemory>
+    requires { IsFirst (HasOpenForm (names_by sources.now.files)) [] sources.now.files form }
+    ensures some { IfOk result (λ found. IfSome found (IsFirstOpen sources.now)) }
+    ensures none { IfOk result (λ found. IfNone found ((sources.now.entries ≡ []) × (form ≡ None))) }
+{
+    if sources.entries.len() == 0 {
+        return Ok(form);
+    }
+    let entries = entries_fault(alloc)?;
+    match form {
+        Some(fault) => Ok(Some(least(entries, fault))),
+        None => Ok(Some(entries)),
+    }
+}
+
+fn entries_fault(alloc: Global) -> Result<Fault, NoMemory>
+    ensures { IfOk result (λ fault. fault ≡ entries_fault_by) }
+{
+    let path = Text::from_str(alloc, SETTINGS_FILE)?;
+    let start = Position {
+        offset: 0,
+        line: 1,
+        column: 1,
+    };
+    Ok(not_built(path, start))
+}
+
+/// The fault of the file whose path comes first.
+fn least(a: Fault, b: Fault) -> Fault
+    ensures { result ≡ least_by a b }
+{
+    if precedes(a.place.path.as_str(), b.place.path.as_str()) {
+        a
+    } else {
+        b
     }
 }
 
@@ -54,102 +98,78 @@ fn precedes(a: &str, b: &str) -> bool
     a.as_bytes().cmp(b.as_bytes()).is_lt()
 }
 
-fn refused(alloc: Global, path: &str) -> Result<Project, NoMemory>
-    ensures { IfOk result (λ project. project ≡ Project.Refused (not_built_at path.now)) }
-{
-    let fault = not_built(alloc, path)?;
-    Ok(Project::Refused(fault))
-}
-
-/// The classes of all files, or the path of the first that spells none that is taken.
+/// The first fault of each kind among files, and the files that are taken.
 #[derive(Debug, Drop)]
-enum Reading {
-    All(JClasses),
-    Open(Text),
+struct Firsts {
+    tokens: Option<Fault>,
+    spelling: Option<Fault>,
+    form: Option<Fault>,
+    taken: TakenFiles,
 }
 
-fn read_classes(alloc: Global, files: &[SourceFile]) -> Result<Reading, NoMemory>
-    ensures { IfOk result (IsReading files.now) }
-{
-    let paths = paths_of(alloc, files)?;
-    let mut classes = JClasses::new(alloc);
-    for file in files {
-        match class_in(alloc, &paths, file)? {
-            Some(class) => classes.push(class)?,
-            None => {
-                let path = Text::from_str(alloc, file.path.as_str())?;
-                return Ok(Reading::Open(path));
-            }
+impl Firsts {
+    /// With what is found of one more file.
+    fn add(&mut self, found: Found) -> Result<(), NoMemory>
+        ensures { OnOk result (self.new ≡ added self.old found) }
+    {
+        match found {
+            Found::Tokens(fault) => keep_first(&mut self.tokens, fault),
+            Found::Spelling(fault) => keep_first(&mut self.spelling, fault),
+            Found::Open(fault) => keep_first(&mut self.form, fault),
+            Found::Taken(file) => self.taken.push(file)?,
         }
+        Ok(())
     }
-    Ok(Reading::All(classes))
 }
 
-/// The paths of files, to be looked up.
-fn paths_of(alloc: Global, files: &[SourceFile]) -> Result<Scope, NoMemory>
-    ensures { IfOk result (λ paths. (path : List ℕ) → list_any (bytes_eq path) paths ≡ list_any (bytes_eq path) (paths_by files.now)) }
+fn keep_first(first: &mut Option<Fault>, fault: Fault)
+    ensures { first.new ≡ earliest first.old (Some fault) }
 {
-    let mut paths = Scope::new(alloc);
-    for file in files {
-        let _ = paths.declare(file.path.as_str())?;
+    if first.is_none() {
+        *first = Some(fault);
     }
-    Ok(paths)
 }
 
-/// The class that a file spells among files of these paths, where it is one that is taken.
-fn class_in(alloc: Global, paths: &Scope, file: &SourceFile) -> Result<Option<JClass>, NoMemory>
-    ensures found { IfOk result (λ found. IfSome found (λ class. IsFileOf paths.now file.now class)) }
-    ensures none { IfOk result (λ found. IfNone found ((class : JClass) → IsFileOf paths.now file.now class → ⊥)) }
+/// Looks at each file of a project, whose classes have these names, behind the files before it. No tree but the typed
+/// ones is kept.
+fn firsts_of(
+    alloc: Global,
+    classes: &Names,
+    files: &[SourceFile],
+) -> Result<Firsts, NoMemory>
+    requires { AreSmall files.now }
+    ensures { IfOk result (AreFirsts classes.now files.now) }
 {
-    let Some(name) = class_name(alloc, &file.path)? else {
-        return Ok(None);
+    let mut earlier = Names::new(alloc);
+    let mut firsts = Firsts {
+        tokens: None,
+        spelling: None,
+        form: None,
+        taken: TakenFiles::new(alloc),
     };
-    match parse(alloc, &file.path, name, file.bytes.as_slice()) {
-        Ok(class) => {
-            let apart = are_apart(alloc, paths, class.main.as_slice())?;
-            if !apart {
-                return Ok(None);
-            }
-            Ok(Some(class))
-        }
-        Err(Stop::Fault(_fault)) => Ok(None),
-        Err(Stop::Memory) => Err(NoMemory),
+    for file in files {
+        let found = look(alloc, classes, &earlier, file)?;
+        firsts.add(found)?;
+        declare(&mut earlier, file.path.as_str())?;
     }
+    Ok(firsts)
 }
 
-/// The class whose file this is, where it may be a class's name.
-fn class_name(alloc: Global, path: &Text) -> Result<Option<Name>, NoMemory>
-    ensures found { IfOk result (λ found. IfSome found (λ name. path.now ≡ name ++ JAVA_END.now)) }
-    ensures none { IfOk result (λ found. IfNone found ((name : List ℕ) → path.now ≡ name ++ JAVA_END.now → is_name name ≡ false)) }
+/// The names of the classes of files.
+fn names_of(alloc: Global, files: &[SourceFile]) -> Result<Names, NoMemory>
+    ensures { IfOk result (λ names. names ≡ names_by files.now) }
 {
-    match path.as_bytes().strip_suffix(JAVA_END.as_bytes()) {
-        Some(stem) => name_of(alloc, stem),
-        None => Ok(None),
+    let mut names = Names::new(alloc);
+    for file in files {
+        declare(&mut names, file.path.as_str())?;
     }
+    Ok(names)
 }
 
-/// Whether no statement declares a local that is named as a class whose file has one of these paths.
-fn are_apart(alloc: Global, paths: &Scope, statements: &[JStmt]) -> Result<bool, NoMemory>
-    ensures { IfOk result (λ apart. apart ≡ are_apart_by paths.now statements.now) }
+/// Declares the name of the class of the file of a path.
+fn declare(names: &mut Names, path: &str) -> Result<(), NoMemory>
+    ensures { OnOk result (names.new ≡ with_name names.old (class_name_by path.now)) }
 {
-    for statement in statements {
-        let names = names_class(alloc, paths, statement)?;
-        if names {
-            return Ok(false);
-        }
-    }
-    Ok(true)
-}
-
-fn names_class(alloc: Global, paths: &Scope, statement: &JStmt) -> Result<bool, NoMemory>
-    ensures { IfOk result (λ names. names ≡ names_class_by paths.now statement.now) }
-{
-    match statement {
-        JStmt::Local(name, _value) => {
-            let mut path = Text::from_str(alloc, name.as_str())?;
-            path.push_str(JAVA_END)?;
-            Ok(paths.contains(path.as_str()))
-        }
-        JStmt::Print(_value) => Ok(false),
-    }
+    names.declare(class_name(path))?;
+    Ok(())
 }

@@ -1,13 +1,13 @@
 // The choices of a conversion, and the report on them.
-ghost use Rattle.std.specs.Prelude.{◌≡◌, ◌++◌, ◌∷◌, [], IfOk, OnOk};
-ghost use Rattle.std.specs.List.{flat_map};
-ghost use Rattle.j2k_tool.specs.Report.{kind_text as kind_text_by, choice_line, ReportText, Choices as choices_by};
+ghost use Rattle.std.specs.Prelude.{◌≡◌, ◌++◌, IfOk, OnOk};
+ghost use Rattle.std.specs.List.{count_by, flat_map};
+ghost use Rattle.j2k_tool.specs.Report.{kind_text as kind_text_by, choice_line, companion, has_class as has_class_by, ReportText, Choices as choices_by};
 
 use crate::faults::{BLANK, push_number, push_place};
 use crate::texts::LINE_END;
-use j2k_base::{Choice, ChoiceKind, Choices, NoMemory, Place, Text};
-use j2k_sources::JAVA_END;
-use meanings::java::JClass;
+use crate::files::TakenFile;
+use j2k_base::{Choice, ChoiceKind, Choices, Name, NoMemory, Place, Text};
+use java_tree::Position;
 use std::alloc::Global;
 
 // The fixed parts of the report.
@@ -62,35 +62,71 @@ fn kind_text(kind: ChoiceKind) -> &'static str
     }
 }
 
-/// The choices of all classes, in their order.
-pub fn choices_of(alloc: Global, classes: &[JClass]) -> Result<Choices, NoMemory>
-    ensures { IfOk result (λ choices. choices ≡ flat_map choices_by classes.now) }
+/// The choices of all files, in their order.
+pub fn choices_of(alloc: Global, taken: &[TakenFile]) -> Result<Choices, NoMemory>
+    ensures { IfOk result (λ choices. choices ≡ flat_map choices_by taken.now) }
 {
     let mut choices = Choices::new(alloc);
-    for class in classes {
-        choices.push(companion_of(alloc, class)?)?;
+    for file in taken {
+        push_choices_of(alloc, &mut choices, file)?;
     }
     Ok(choices)
 }
 
-/// The choice of a class whose one member is its static `main`: it has a companion.
-fn companion_of(alloc: Global, class: &JClass) -> Result<Choice, NoMemory>
-    ensures { IfOk result (λ choice. choice ∷ [] ≡ choices_by class.now) }
+/// A class with a static `main` has a companion.
+fn push_choices_of(
+    alloc: Global,
+    choices: &mut Choices,
+    taken: &TakenFile,
+) -> Result<(), NoMemory>
+    ensures { OnOk result (choices.new ≡ choices.old ++ choices_by taken.now) }
 {
-    let mut path = Text::from_str(alloc, class.name.as_str())?;
-    path.push_str(JAVA_END)?;
-    let place = Place {
-        path,
-        offset: 13,
-        line: 1,
-        column: 14,
+    let Some(at) = taken.typed.at else {
+        return Ok(());
     };
-    let text = Text::from_str(alloc, class.name.as_str())?;
+    let Some(class) = &taken.typed.file.class else {
+        return Ok(());
+    };
+    if class.main.is_none() {
+        return Ok(());
+    }
+    choices.push(companion_of(alloc, &taken.path, at, &class.name)?)
+}
+
+fn companion_of(
+    alloc: Global,
+    path: &Text,
+    at: Position,
+    name: &Name,
+) -> Result<Choice, NoMemory>
+    ensures { IfOk result (λ choice. choice ≡ companion path.now at name.now) }
+{
+    let path = Text::from_str(alloc, path.as_str())?;
+    let text = Text::from_str(alloc, name.as_str())?;
     Ok(Choice {
         kind: ChoiceKind::Companion,
-        place,
+        place: Place {
+            path,
+            offset: at.offset,
+            line: at.line,
+            column: at.column,
+        },
         text,
     })
+}
+
+/// How many files hold a class.
+pub fn classes_in(taken: &[TakenFile]) -> usize
+    ensures { result ≡ count_by has_class_by taken.now }
+{
+    taken.iter().filter(|file| has_class(file)).count()
+}
+
+#[tactic(auto, unfolding(crate::specs::Report::has_class))]
+fn has_class(file: &TakenFile) -> bool
+    ensures { result ≡ has_class_by file.now }
+{
+    file.typed.file.class.is_some()
 }
 
 /// The report on so many files and these choices.

@@ -7,8 +7,9 @@ use std::test::Fail as Failure;
 const JAVA: &str =
     "public class Main {\n    public static void main(String[] args) {\n        int a = 2;\n        int b = a * 3;\n        System.out.println(a + b);\n    }\n}\n";
 
-const NO_BLANKS: &str =
-    "public class Main {\n    public static void main(String[] args) {\n        int a = 2;\n        int b = a * 3;\n        System.out.println(a+b);\n    }\n}\n";
+// The same program in another layout.
+const OTHER_LAYOUT: &str =
+    "\npublic class Main\n{ static public void main(\tString [ ] args){int a=2;int b=a*3;\r\nSystem . out.println(a+b) ; } }";
 
 const USED_EARLY: &str =
     "public class Main {\n    public static void main(String[] args) {\n        int b = a * 3;\n        int a = 2;\n    }\n}\n";
@@ -22,9 +23,13 @@ const LINE: &str = "converted: files 1, classes 1, choices 1\n";
 
 const USAGE: &str = "usage: j2k convert SRC DST | check DIR | explain SRC | sample SEED COUNT\n";
 
-const REFUSED: &str = "Main.java:1:1: N0 not built yet\n";
+const OTHER_REPORT: &str = "j2k-report 1\nfiles 1\nchoices 1\nMain.java:2:14 companion Main\n";
 
-const REFUSED_OTHER: &str = "B.java:1:1: N0 not built yet\n";
+const WITH_EMPTY: &str = "j2k-report 1\nfiles 2\nchoices 1\nMain.java:1:14 companion Main\n";
+
+const LINE_WITH_EMPTY: &str = "converted: files 2, classes 1, choices 1\n";
+
+const REFUSED: &str = "Main.java:3:17: N0 not built yet\n";
 
 const READ: &str = "j2k: read fault\n";
 
@@ -37,15 +42,15 @@ const NONE: &str = "-";
 const PROJECTS: [(&str, &str, Status, &str, &str, &str); 7] = [
     (JAVA, "src/notes.txt", Status::Done, LINE, KOTLIN, REPORT),
     (JAVA, "out2/x", Status::Done, LINE, KOTLIN, REPORT),
-    (NO_BLANKS, "x", Status::Refused, REFUSED, NONE, NONE),
+    (OTHER_LAYOUT, "x", Status::Done, LINE, KOTLIN, OTHER_REPORT),
     (USED_EARLY, "x", Status::Refused, REFUSED, NONE, NONE),
     (
         JAVA,
         "src/B.java",
-        Status::Refused,
-        REFUSED_OTHER,
-        NONE,
-        NONE,
+        Status::Done,
+        LINE_WITH_EMPTY,
+        KOTLIN,
+        WITH_EMPTY,
     ),
     (JAVA, "src/j2k.toml", Status::Done, LINE, KOTLIN, REPORT),
     (
@@ -246,9 +251,95 @@ fn local_named_as_a_class(rt: HostRuntime) -> Result<(), Failure> {
     assert!(rt; taken);
     let mut both = file_of(alloc, "src/A.java", NAMES_B)?;
     add(alloc, &mut both, "src/B.java", PRINTS.as_bytes())?;
-    let refused = "A.java:1:1: N0 not built yet\n";
+    let refused = "A.java:3:13: N0 not built yet\n";
     let is_refused = answers(alloc, both, Status::Refused, refused)?;
     assert!(rt; is_refused);
+    Ok(())
+}
+
+const PACKED: &str =
+    "package a.b;\n\npublic class Main {\n    public static void main(String[] p) {\n        System.out.println(7);\n    }\n}\n";
+
+const PACKED_KOTLIN: &str =
+    "package a.b\n\nclass Main {\n    companion object {\n        @JvmStatic fun main(p: Array<String>) {\n            println(7)\n        }\n    }\n}\n";
+
+#[test]
+fn packages(rt: HostRuntime) -> Result<(), Failure> {
+    let alloc = rt.alloc();
+    let words = words_of(alloc, "convert", "src", "out")?;
+    let mut files = file_of(alloc, "src/a/b/Main.java", PACKED)?;
+    add(alloc, &mut files, "src/a/C.java", b"package a; public class C { }")?;
+    let mut disk = SteadyDisk::new(files);
+    let line = "converted: files 2, classes 2, choices 1\n";
+    assert!(rt; ends(alloc, &words, &mut disk, Status::Done, line));
+    let has_main = holds(alloc, disk.files(), "out/a/b/Main.kt", PACKED_KOTLIN)?;
+    assert!(rt; has_main);
+    let other = "package a\n\nclass C {\n}\n";
+    let has_other = holds(alloc, disk.files(), "out/a/C.kt", other)?;
+    assert!(rt; has_other);
+    let report = "j2k-report 1\nfiles 2\nchoices 1\na/b/Main.java:3:14 companion Main\n";
+    let has_report = holds(alloc, disk.files(), "out/j2k-report.txt", report)?;
+    assert!(rt; has_report);
+    Ok(())
+}
+
+// Two files, their bytes, and the line that is printed.
+const FAULTS: [(&str, &[u8], &str, &[u8], &str); 6] = [
+    ("src/A.java", b"public class A { /* x */ }", "x", b"", "A.java:1:18: N0 not built yet\n"),
+    ("src/A.java", b"}", "src/B.java", b"#", "B.java:1:1: L3 illegal character\n"),
+    ("src/A.java", b"import a.B;", "src/B.java", b" }", "B.java:1:2: S1 unmatched bracket\n"),
+    ("src/A.java", b"}", "src/B.java", b"{", "A.java:1:1: S1 unmatched bracket\n"),
+    ("src/A.java", b"import a.B;", "src/B.java", b"import a.B;", "A.java:1:1: N0 not built yet\n"),
+    (
+        "src/a/A.java",
+        b"package a; public class A { }",
+        "src/b/A.java",
+        b"package b; public class A { }",
+        "b/A.java:1:25: N0 not built yet\n",
+    ),
+];
+
+#[test]
+fn first_faults(rt: HostRuntime) -> Result<(), Failure> {
+    let alloc = rt.alloc();
+    for (path, bytes, other, more, line) in FAULTS {
+        let mut files = FileMap::new(alloc);
+        add(alloc, &mut files, path, bytes)?;
+        add(alloc, &mut files, other, more)?;
+        let refused = answers(alloc, files, Status::Refused, line)?;
+        assert!(rt; refused, "for {line}");
+    }
+    Ok(())
+}
+
+// A program that prints a local in so many parentheses, at a depth of 3.
+fn nested(alloc: Global, depth: u32) -> Result<String, NoMemory> {
+    let mut text = String::from_str(
+        alloc,
+        "public class A { public static void main(String[] args) { int a = 1; System.out.println(",
+    )?;
+    for _ in 0..depth {
+        text.push('(')?;
+    }
+    text.push('a')?;
+    for _ in 0..depth {
+        text.push(')')?;
+    }
+    text.push_str("); } }")?;
+    Ok(text)
+}
+
+#[test]
+fn parentheses(rt: HostRuntime) -> Result<(), Failure> {
+    let alloc = rt.alloc();
+    let files = file_of(alloc, "src/A.java", nested(alloc, 197)?.as_str())?;
+    let line = "converted: files 1, classes 1, choices 1\n";
+    let done = answers(alloc, files, Status::Done, line)?;
+    assert!(rt; done);
+    let files = file_of(alloc, "src/A.java", nested(alloc, 198)?.as_str())?;
+    let line = "A.java:1:286: S3 nesting too deep\n";
+    let refused = answers(alloc, files, Status::Refused, line)?;
+    assert!(rt; refused);
     Ok(())
 }
 
@@ -265,7 +356,7 @@ fn settings(rt: HostRuntime) -> Result<(), Failure> {
     let refused = answers(alloc, entry, Status::Refused, line)?;
     assert!(rt; refused);
     let mut earlier = file_of(alloc, "src/j2k.toml", "entries = [\"a.B.c\"]")?;
-    add(alloc, &mut earlier, "src/A.java", b"")?;
+    add(alloc, &mut earlier, "src/A.java", b"import a.B;")?;
     let line = "A.java:1:1: N0 not built yet\n";
     let refused = answers(alloc, earlier, Status::Refused, line)?;
     assert!(rt; refused);
@@ -286,9 +377,9 @@ fn long_file(rt: HostRuntime) -> Result<(), Failure> {
     let alloc = rt.alloc();
     let mut text = blanks(alloc, 1_048_576)?;
     let files = file_of(alloc, "src/A.java", text.as_str())?;
-    let line = "A.java:1:1: N0 not built yet\n";
-    let refused = answers(alloc, files, Status::Refused, line)?;
-    assert!(rt; refused);
+    let line = "converted: files 1, classes 0, choices 0\n";
+    let done = answers(alloc, files, Status::Done, line)?;
+    assert!(rt; done);
     text.push(' ')?;
     let files = file_of(alloc, "src/A.java", text.as_str())?;
     let line = "j2k: too large: A.java 1048576\n";

@@ -10,11 +10,6 @@ pub const SLASH: &str = "/";
 
 pub const CONVERT: &str = "convert";
 
-pub const ARGS: &str = "args";
-
-// The root of the packages of Java's library.
-pub const JAVA: &str = "java";
-
 pub const KOTLIN_END: &str = ".kt";
 
 pub const REPORT_FILE: &str = "j2k-report.txt";

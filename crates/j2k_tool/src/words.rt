@@ -77,7 +77,7 @@ fn is_rooted(path: &[u8]) -> bool
 }
 
 /// The first step of a path, and what stands after it.
-#[tactic(auto, using(crate::proofs::Paths::cut_steps))]
+#[tactic(auto, using(crate::proofs::Steps::cut_steps))]
 fn next_step<'a>(path: &'a [u8]) -> (Option<&'a [u8]>, &'a [u8])
     ensures some { IfSome result.0 (λ step. steps path.now ≡ step.now ∷ steps result.1.now) }
     ensures none { IfNone result.0 (steps path.now ≡ []) }

@@ -5,14 +5,15 @@ ghost use Rattle.j2k_sources.specs.Causes.{HasCauses};
 ghost use Rattle.j2k_tool.specs.Report.{ReportText};
 ghost use Rattle.j2k_tool.specs.Written.{placed, kotlin_file as kotlin_file_by, AreFree};
 
-use crate::conversion::class_of;
+use crate::conversion::file_of;
+use crate::files::TakenFile;
+use crate::paths::kotlin_path;
 use crate::printing::text_of;
 use crate::report::report_of;
-use crate::texts::{KOTLIN_END, REPORT_FILE};
+use crate::texts::REPORT_FILE;
 use j2k_base::{Choice, NoMemory, Series, Text};
 use j2k_io::Disk;
 use j2k_sources::{Halt, write};
-use meanings::java::JClass;
 use std::alloc::Global;
 
 /// A file that is to be made, by its path in the target folder.
@@ -24,38 +25,37 @@ pub struct MadeFile {
 
 pub type MadeFiles = Series<MadeFile>;
 
-/// The Kotlin file of each class, and the report.
+/// The Kotlin file of each Java file, and the report.
 pub fn files_of(
     alloc: Global,
-    classes: &[JClass],
+    taken: &[TakenFile],
     choices: &[Choice],
 ) -> Result<MadeFiles, NoMemory>
-    ensures { IfOk result (λ made. made ≡ map kotlin_file_by classes.now ++ record { path = REPORT_FILE.now; text = ReportText (length classes.now) choices.now } ∷ []) }
+    ensures { IfOk result (λ made. made ≡ map kotlin_file_by taken.now ++ record { path = REPORT_FILE.now; text = ReportText (length taken.now) choices.now } ∷ []) }
 {
-    let mut files = kotlin_files(alloc, classes)?;
+    let mut files = kotlin_files(alloc, taken)?;
     let path = Text::from_str(alloc, REPORT_FILE)?;
-    let text = report_of(alloc, classes.len(), choices)?;
+    let text = report_of(alloc, taken.len(), choices)?;
     files.push(MadeFile { path, text })?;
     Ok(files)
 }
 
-fn kotlin_files(alloc: Global, classes: &[JClass]) -> Result<MadeFiles, NoMemory>
-    ensures { IfOk result (λ made. made ≡ map kotlin_file_by classes.now) }
+fn kotlin_files(alloc: Global, taken: &[TakenFile]) -> Result<MadeFiles, NoMemory>
+    ensures { IfOk result (λ made. made ≡ map kotlin_file_by taken.now) }
 {
     let mut files = MadeFiles::new(alloc);
-    for class in classes {
-        files.push(kotlin_file(alloc, class)?)?;
+    for file in taken {
+        files.push(kotlin_file(alloc, file)?)?;
     }
     Ok(files)
 }
 
-fn kotlin_file(alloc: Global, class: &JClass) -> Result<MadeFile, NoMemory>
-    ensures { IfOk result (λ made. made ≡ kotlin_file_by class.now) }
+fn kotlin_file(alloc: Global, taken: &TakenFile) -> Result<MadeFile, NoMemory>
+    ensures { IfOk result (λ made. made ≡ kotlin_file_by taken.now) }
 {
-    let made = class_of(alloc, class)?;
+    let made = file_of(alloc, &taken.typed.file)?;
     let text = text_of(alloc, &made)?;
-    let mut path = Text::from_str(alloc, class.name.as_str())?;
-    path.push_str(KOTLIN_END)?;
+    let path = kotlin_path(alloc, taken.path.as_str())?;
     Ok(MadeFile { path, text })
 }
 

@@ -1,11 +1,12 @@
 -- How the cutting of a text goes on, and that a text is cut in one way.
-use Rattle.std.proofs.Common.{◌≡◌, ℕ, true, false, List, [], ◌∷◌, ◌++◌, refl, sym, ◌∙◌, ap, subst, append_assoc, Option}
+use Rattle.std.proofs.Common.{◌≡◌, ◌≤◌, ℕ, true, false, List, [], ◌∷◌, ◌++◌, length, arith, refl, sym, ◌∙◌, ap, subst, append_assoc, Option}
 use Rattle.std.proofs.lemmas.List.{append-nil}
 use Rattle.std.proofs.lemmas.Bool.{false≢true}
 use Rattle.java_tree.specs.declared.tokens.JToken.{JToken}
 use Rattle.java_tree.specs.declared.tokens.Comment as remarks
 use Rattle.java_lexer.specs.declared.found.LexFault.{LexFault}
 use Rattle.java_lexer.specs.declared.found.Piece.{Piece}
+use Rattle.java_lexer.specs.declared.found.Piece.TheVariants.{End, Fault, White, Comment, Token}
 use Rattle.java_lexer.specs.declared.cutting.Before.{Before}
 use Rattle.java_lexer.specs.declared.cutting.Before.TheVariants.{Other}
 use Rattle.java_letters.specs.Letters.{Letters, text_of}
@@ -31,6 +32,14 @@ pub goes_on : (text t more : Letters) (before : Before) (tokens : List JToken) (
 goes_on text t more before tokens comments p g e n ps last rest c =
     let all = g (p ∷ ps) last rest (more, e, n, c) in
     (all.0, all.1, append_assoc tokens (token_in p) (tokens_of ps) ∙ all.2, append_assoc comments (comment_in p) (comments_of ps) ∙ all.3)
+
+-- a piece is one token at most
+pub one_token : (p : Piece) → length (token_in p) ≤ 1
+one_token End = omega arith
+one_token (Fault f) = omega arith
+one_token White = omega arith
+one_token (Comment c) = omega arith
+one_token (Token t) = omega arith
 
 pub ends : (bytes : List ℕ) (t more : Letters) (before : Before) (tokens : List JToken) (comments : List remarks.Comment) (p : Piece) →
     GoesOn (text_of bytes) before t tokens comments → next_piece before t ≡ record { piece = p; rest = more } → is_last p ≡ true →

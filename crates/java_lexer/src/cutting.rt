@@ -1,6 +1,6 @@
 // A text is cut into white space, comments and tokens.
 
-ghost use Rattle.std.specs.Prelude.{◌≡◌, ◌-◌, ◌^◌, ◌<◌, ◌++◌, length, false, IfOk, OnOk};
+ghost use Rattle.std.specs.Prelude.{◌≡◌, ◌-◌, ◌^◌, ◌<◌, ◌≤◌, ◌++◌, length, false, IfOk, OnOk};
 ghost use Rattle.java_letters.specs.Letters.{letters, IsAt, IsFrom};
 ghost use Rattle.java_lexer.specs.Found.{cut_of, is_last};
 ghost use Rattle.java_lexer.specs.Cutting.{is_minus, before_mark, before_kind, before_next, is_override, annotated, behind_at, is_cut, judged, next_piece, token_in, comment_in, end_fault, fault_of, Reading};
@@ -209,7 +209,8 @@ pub struct Read {
 /// The tokens and comments of bytes, up to their end or the first fault.
 pub fn reading_of(alloc: Global, bytes: &[u8]) -> Result<Read, NoMemory>
     requires { length bytes.now < 2 ^ 32 - 1 }
-    ensures { IfOk result (λ r. Reading bytes.now r.tokens r.comments r.fault) }
+    ensures reading { IfOk result (λ r. Reading bytes.now r.tokens r.comments r.fault) }
+    ensures few { IfOk result (λ r. length r.tokens ≤ length bytes.now) }
 {
     let mut tokens = JTokens::new(alloc);
     let mut comments = Comments::new(alloc);

@@ -1,6 +1,6 @@
 // The tokens and comments of a file, or its first fault.
 
-ghost use Rattle.std.specs.Prelude.{◌≡◌, ◌-◌, ◌^◌, ◌<◌, ◌⊎◌, List, length, IfOk, IfErr, MatchResult};
+ghost use Rattle.std.specs.Prelude.{◌≡◌, ◌-◌, ◌^◌, ◌<◌, ◌≤◌, ◌⊎◌, List, length, IfOk, IfErr, MatchResult};
 ghost use Rattle.java_tree.specs.declared.tokens.JToken.{JToken};
 ghost use Rattle.java_tree.specs.declared.tokens.Comment.{Comment};
 ghost use Rattle.java_lexer.specs.declared.found.LexFault.{LexFault};
@@ -54,6 +54,8 @@ pub fn lex(alloc: Global, path: &Text, bytes: &[u8]) -> Result<Tokens, Stop>
     ensures path { IfOk result (λ t. t.path ≡ path.now) }
     // What is returned is so.
     ensures found { IfOk result (λ t. Lexes bytes.now t.list t.comments) }
+    // A token takes a byte at least.
+    ensures few { IfOk result (λ t. length t.list ≤ length bytes.now) }
     // What is so is returned, unless memory runs out.
     ensures only { (ts : List JToken) (cs : List Comment) → Lexes bytes.now ts cs →
         MatchResult result (λ t. (t.list ≡ ts) × (t.comments ≡ cs)) (λ e. e ≡ Stop.Memory) }

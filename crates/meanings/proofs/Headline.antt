@@ -1,36 +1,40 @@
 -- The headline's theorem: the Kotlin of a project makes the steps of the project, in every run.
 use Rattle.std.proofs.Common.{◌≡◌, ◌≢◌, ℕ, zero, suc, List, [], ◌∷◌, ◌++◌, map, Option, Some, None, slice_get, slice_set, refl, sym, ◌∙◌, ap, subst}
-use Rattle.meanings.specs.declared.java.JOperand.{JOperand}
-use Rattle.meanings.specs.declared.java.JOperand.TheVariants.{Local as LocalName, Number}
+use Rattle.std.specs.Prelude.{option_map, filter_map}
+use Rattle.std.specs.List.{cons_option}
 use Rattle.meanings.specs.declared.java.JExpr.{JExpr}
-use Rattle.meanings.specs.declared.java.JExpr.TheVariants.{Operand, Binary}
+use Rattle.meanings.specs.declared.java.JExpr.TheOpen.{JExpr-F}
 use Rattle.meanings.specs.declared.java.JStmt.{JStmt}
 use Rattle.meanings.specs.declared.java.JStmt.TheVariants.{Local, Print}
+use Rattle.meanings.specs.declared.java.JMain.{JMain}
 use Rattle.meanings.specs.declared.java.JClass.{JClass}
+use Rattle.meanings.specs.declared.java.JFile.{JFile}
+use Rattle.meanings.specs.declared.kotlin.KMain.{KMain}
 use Rattle.meanings.specs.declared.kotlin.KClass.{KClass}
-use Rattle.meanings.specs.Convert.{classes_of}
+use Rattle.meanings.specs.Convert.{main_of, class_of, classes_of, files_of}
 use Rattle.meanings.specs.Values.{Name, Site, Value, Step, Touch, InitEnd, Alloc, Built, Get, Put, GetStatic, PutStatic, GetElem, PutElem, Enter, Exit, Print as PrintStep, ReadByte, Lib, Raise, Start as StartStep, Join, End, Torn, Answer, Ready, Run, Mine, Failed, Done, Given, Raised}
 use Rattle.meanings.specs.Machine.{Place}
-use Rattle.meanings.specs.Program.{main_entry, Turn, Next, IsBusy, Ended, Start}
+use Rattle.meanings.specs.Program.{Body, main_entry, Turn, Next, IsBusy, Ended, Start}
 use Rattle.meanings.specs.World.{World, Reply, answer}
 use Rattle.meanings.specs.Runs.{Thread, Behavior, begun, with_new, replied, turned, turn_of, run, NeverTorn}
-use Rattle.meanings.specs.Java.{java_operand, java_expr, java_stmt, java_main, java_program, JavaThread}
-use Rattle.meanings.specs.Kotlin.{KotlinThread}
-use Rattle.meanings.specs.Entries.{Input, first_world, first_threads}
+use Rattle.meanings.specs.Java.{java_expr, java_stmt, java_main, java_method, entry_class as java_entry_class, classes_in as java_classes_in, java_program, JavaThread}
+use Rattle.meanings.specs.Kotlin.{entry_class as kotlin_entry_class, classes_in as kotlin_classes_in, kotlin_program, KotlinThread}
+use Rattle.meanings.specs.Entries.{Entry, Input, first_world, first_threads, run_of}
 use Rattle.meanings.specs.SameSteps.{SameSteps}
 use Rattle.meanings.proofs.Calm.{Calm, CalmTexts, CalmProgram, AllCalm, none, more, bind_calm, pure_calm, local_calm, assign_calm, arithmetic_calm, binary_calm, print_line_calm, sequence_calm, thread_calm}
+use Rattle.meanings.proofs.Layers.{java_induct, java_at}
 use Rattle.meanings.proofs.RunLaws.{Kept, run_same, run_never_torn}
 use Rattle.meanings.proofs.SameText.{IsGiven, thread_same}
 
 -- ---- a Java thread of this form never asks Torn
 
-operand_calm : (p : Place) (a : JOperand) → Calm (java_operand p a)
-operand_calm p (LocalName name) = local_calm name
-operand_calm p (Number n) = pure_calm _
-
 expr_calm : (p : Place) (e : JExpr) → Calm (java_expr p e)
-expr_calm p (Operand a) = operand_calm p a
-expr_calm p (Binary a operator b) = binary_calm (arithmetic_calm _ operator) (operand_calm p a) (operand_calm p b)
+expr_calm p = java_induct (λ e. Calm (java_expr p e)) (record {
+  local = λ name. rw (java_at p (JExpr-F.Local name)) (local_calm name);
+  number = λ n. rw (java_at p (JExpr-F.Number n)) (pure_calm _);
+  paren = λ e calm. rw (java_at p (JExpr-F.Paren e)) calm;
+  binary = λ a operator b left right. rw (java_at p (JExpr-F.Binary a operator b)) (binary_calm (arithmetic_calm _ operator) left right);
+})
 
 stmt_calm : (p : Place) (s : JStmt) → Calm (java_stmt p s)
 stmt_calm p (Local name e) = bind_calm (expr_calm p e) (assign_calm name)
@@ -40,9 +44,13 @@ stmts_calm : (p : Place) (body : List JStmt) → AllCalm (map (java_stmt p) body
 stmts_calm p [] = none
 stmts_calm p (s ∷ body) = more (stmt_calm p s) (stmts_calm p body)
 
-methods_calm : (classes : List JClass) → CalmTexts (map java_main classes)
+method_calm : (class : Name) (main : Option JMain) (bodies : List Body) → CalmTexts bodies → CalmTexts (cons_option (option_map (java_main class) main) bodies)
+method_calm class None bodies calm = calm
+method_calm class (Some main) bodies calm = (λ p h. sequence_calm (stmts_calm p main.body), calm)
+
+methods_calm : (classes : List JClass) → CalmTexts (filter_map java_method classes)
 methods_calm [] = tt
-methods_calm (class ∷ classes) = (λ p h. sequence_calm (stmts_calm p class.main), methods_calm classes)
+methods_calm (class ∷ classes) = method_calm class.name class.main _ (methods_calm classes)
 
 pub java_calm : (classes : List JClass) → CalmProgram (java_program classes)
 java_calm classes = record { methods = methods_calm classes; constructors = tt; lambdas = tt; initializers = tt }
@@ -132,22 +140,48 @@ never_torn_of_project : (classes : List JClass) (n : ℕ) (w : World) (ts : List
 never_torn_of_project classes n w ts h schedule =
     run_never_torn (KotlinThread (classes_of classes)) n (λ w ts. StartsGiven ts) (λ w ts h i t is. kotlin_calm classes t.start (start_at ts h i t is) t.had n) (kept (KotlinThread (classes_of classes)) n) w ts h schedule
 
--- the classes keep their names
-names_kept : (classes : List JClass) → map (λ (class : KClass). class.name) (classes_of classes) ≡ map (λ (class : JClass). class.name) classes
+-- the classes of the files, and those of them that have a `main`, are the same
+class_kept : (class : Option JClass) (classes : List JClass) → cons_option (option_map class_of class) (classes_of classes) ≡ classes_of (cons_option class classes)
+class_kept None classes = refl
+class_kept (Some class) classes = refl
+
+classes_kept : (files : List JFile) → kotlin_classes_in (files_of files) ≡ classes_of (java_classes_in files)
+classes_kept [] = refl
+classes_kept (file ∷ files) =
+    ap (cons_option (option_map class_of file.class)) (classes_kept files) ∙ class_kept file.class (java_classes_in files)
+
+name_kept : (class : Name) (main : Option JMain) → option_map (λ (main : KMain). class) (option_map main_of main) ≡ option_map (λ (main : JMain). class) main
+name_kept class None = refl
+name_kept class (Some main) = refl
+
+names_kept : (classes : List JClass) → filter_map kotlin_entry_class (classes_of classes) ≡ filter_map java_entry_class classes
 names_kept [] = refl
-names_kept (class ∷ classes) = ap (λ (names : List Name). class.name ∷ names) (names_kept classes)
+names_kept (class ∷ classes) =
+    ap (λ (name : Option Name). cons_option name (filter_map kotlin_entry_class (classes_of classes))) (name_kept class.name class.main)
+    ∙ ap (cons_option (java_entry_class class)) (names_kept classes)
 
 -- so the same threads begin
 threads_kept : (classes : List JClass) (class method : Name) (input : Input) →
-    first_threads (main_entry (map (λ (class : KClass). class.name) (classes_of classes)) class method) input ≡ first_threads (main_entry (map (λ (class : JClass). class.name) classes) class method) input
+    first_threads (main_entry (filter_map kotlin_entry_class (classes_of classes)) class method) input ≡ first_threads (main_entry (filter_map java_entry_class classes) class method) input
 threads_kept classes class method input = ap (λ (names : List Name). first_threads (main_entry names class method) input) (names_kept classes)
 
+-- the runs of classes and of their Kotlin
+classes_same : (classes : List JClass) (entry : Entry) (input : Input) (schedule : List ℕ) (n : ℕ) →
+    run_of (kotlin_program (classes_of classes)) entry input schedule n ≡ run_of (java_program classes) entry input schedule n
+classes_same classes entry input schedule n =
+    ap (λ (ts : List Thread). run (KotlinThread (classes_of classes)) n (first_world (java_program classes) input) ts schedule) (threads_kept classes entry.class entry.method input)
+    ∙ run_of_project classes n (first_world (java_program classes) input) (first_threads (main_entry (filter_map java_entry_class classes) entry.class entry.method) input) (first_given _ input) schedule
+
+classes_never_torn : (classes : List JClass) (entry : Entry) (input : Input) (schedule : List ℕ) (n : ℕ) → NeverTorn (run_of (kotlin_program (classes_of classes)) entry input schedule n)
+classes_never_torn classes entry input schedule n =
+    never_torn_of_project classes n (first_world (java_program classes) input) (first_threads (main_entry (filter_map kotlin_entry_class (classes_of classes)) entry.class entry.method) input)
+    (first_given _ input) schedule
+
 -- the headline's theorem, for every project of the form
-pub same_steps : (classes : List JClass) → SameSteps classes (classes_of classes)
-same_steps classes = record {
+pub same_steps : (files : List JFile) → SameSteps files (files_of files)
+same_steps files = record {
   same = λ entry is input schedule n.
-      ap (λ (ts : List Thread). run (KotlinThread (classes_of classes)) n (first_world (java_program classes) input) ts schedule) (threads_kept classes entry.class entry.method input)
-      ∙ run_of_project classes n (first_world (java_program classes) input) (first_threads (main_entry (map (λ (class : JClass). class.name) classes) entry.class entry.method) input) (first_given _ input) schedule;
+      ap (λ (classes : List KClass). run_of (kotlin_program classes) entry input schedule n) (classes_kept files) ∙ classes_same (java_classes_in files) entry input schedule n;
   never_torn = λ entry is input schedule n.
-      never_torn_of_project classes n (first_world (java_program classes) input) (first_threads (main_entry (map (λ (class : KClass). class.name) (classes_of classes)) entry.class entry.method) input) (first_given _ input) schedule;
+      subst (λ (classes : List KClass). NeverTorn (run_of (kotlin_program classes) entry input schedule n)) (sym (classes_kept files)) (classes_never_torn (java_classes_in files) entry input schedule n);
 }

@@ -1,5 +1,6 @@
 mod Worked
 mod WorkedMachine
+pub mod Layers
 pub mod Calm
 pub mod RunLaws
 pub mod SameText
@@ -10,5 +11,7 @@ pub mod SameValues
 pub mod Answers
 pub mod Whole
 pub mod Typed
+pub mod Words
+pub mod Expressions
 pub mod Spelling
 pub mod Numbers

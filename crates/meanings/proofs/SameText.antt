@@ -1,21 +1,24 @@
 -- The text of a class of this form does in Kotlin what it does in Java.
 use Rattle.std.proofs.Common.{◌≡◌, ℕ, zero, suc, ◌+◌, pos, Bool, true, false, ◌&&◌, List, [], ◌∷◌, map, length, Option, Some, None, if◌then◌else◌, refl, ap}
-use Rattle.std.specs.Prelude.{codes}
-use Rattle.meanings.specs.declared.java.JOperand.{JOperand}
-use Rattle.meanings.specs.declared.java.JOperand.TheVariants.{Local as LocalName, Number}
-use Rattle.meanings.specs.declared.java.JExpr.{JExpr}
-use Rattle.meanings.specs.declared.java.JExpr.TheVariants.{Operand, Binary}
+use Rattle.std.specs.Prelude.{option_map, filter_map}
+use Rattle.std.specs.List.{cons_option}
+use Rattle.meanings.specs.declared.java.JExpr.{JExpr, map-JExpr, fold-JExpr, fold-roll-JExpr, roll-JExpr}
+use Rattle.meanings.specs.declared.java.JExpr.TheOpen.{JExpr-F}
+use Rattle.meanings.specs.declared.kotlin.KExpr.TheOpen.{KExpr-F}
+use Rattle.meanings.specs.declared.kotlin.KExpr.TheVariants as ke
 use Rattle.meanings.specs.declared.java.JStmt.{JStmt}
 use Rattle.meanings.specs.declared.java.JStmt.TheVariants.{Local, Print}
+use Rattle.meanings.specs.declared.java.JMain.{JMain}
 use Rattle.meanings.specs.declared.java.JClass.{JClass}
-use Rattle.meanings.specs.Convert.{operand_of, expression_of, statement_of, classes_of}
+use Rattle.meanings.specs.Convert.{expression_of, statement_of, main_of, classes_of}
 use Rattle.meanings.specs.Values.{Name, same_name, Site, same_site, Kind, Value, Null, Integer, Lambda, captured_list, Int, Step, Answer, Ready, Run, Mine, Failed, Done, Given, Raised, is_null, integer_in, narrowed}
 use Rattle.meanings.specs.Outcome.{Locals, get, State, Outcome, Asks, Busy, Gives, Jumps, Meaning, then_do, pure, torn, ◌>>◌, ask_from, pay_from, assign_all}
 use Rattle.meanings.specs.Machine.{Bodies, Place, operated, received, print_line, returned, sequence}
-use Rattle.meanings.specs.Program.{Program, Start, Enters, Runs, thread_from, turn, enter, place, bodies, run_site, main_site}
+use Rattle.meanings.specs.Program.{Program, Body, Start, Enters, Runs, thread_from, turn, enter, place, bodies, run_site, main_site}
 use Rattle.meanings.specs.Static.{KType, type_of, is_non_null, Static, declared, extended, main_static}
-use Rattle.meanings.specs.Java.{java_expr, java_operand, java_stmt, java_main, java_program, JavaThread}
-use Rattle.meanings.specs.Kotlin.{used, operator_kind, kotlin_expr, kotlin_operand, kotlin_stmts, kotlin_main, kotlin_program, KotlinThread}
+use Rattle.meanings.specs.Java.{java_expr, java_stmt, java_main, java_method, java_program, JavaThread}
+use Rattle.meanings.specs.Kotlin.{used, operator_kind, kotlin_expr, kotlin_stmts, kotlin_main, kotlin_method, kotlin_program, KotlinThread}
+use Rattle.meanings.proofs.Layers.{java_induct, java_at, convert_at, kotlin_at}
 
 -- ---- no value is null
 
@@ -37,29 +40,34 @@ get_given (b ∷ locals) name h = if_given (same_name b.0 name) b.1 (get locals 
 
 -- ---- expressions make no step and give a value
 
-abbrev operand_value : Locals → JOperand → Value
-operand_value locals (LocalName name) = get locals name
-operand_value locals (Number n) = Integer Int (pos n)
+abbrev value_by : Locals → JExpr-F Value → Value
+value_by locals (JExpr-F.Local name) = get locals name
+value_by locals (JExpr-F.Number n) = Integer Int (pos n)
+value_by locals (JExpr-F.Paren v) = v
+value_by locals (JExpr-F.Binary v operator w) = Integer Int (narrowed Int (operated operator (integer_in v) (integer_in w)))
 
-abbrev value : Locals → JExpr → Value
-value locals (Operand a) = operand_value locals a
-value locals (Binary a operator b) = Integer Int (narrowed Int (operated operator (integer_in (operand_value locals a)) (integer_in (operand_value locals b))))
+value : Locals → JExpr → Value
+value locals = fold-JExpr Value (value_by locals)
 
-operand_given : (locals : Locals) (a : JOperand) → LocalsGiven locals → is_null (operand_value locals a) ≡ false
-operand_given locals (LocalName name) h = get_given locals name h
-operand_given locals (Number n) h = refl
+value_at : (locals : Locals) (x : JExpr-F JExpr) → value locals (roll-JExpr x) ≡ value_by locals (map-JExpr JExpr Value (value locals) x)
+unfolding value
+value_at locals x = fold-roll-JExpr Value (value_by locals) x
 
-value_given : (locals : Locals) (e : JExpr) → LocalsGiven locals → is_null (value locals e) ≡ false
-value_given locals (Operand a) h = operand_given locals a h
-value_given locals (Binary a operator b) h = refl
-
-java_operand_is : (p : Place) (a : JOperand) (s : State) → java_operand p a s ≡ Gives (operand_value s.locals a) s
-java_operand_is p (LocalName name) s = refl
-java_operand_is p (Number n) s = refl
+value_given : (locals : Locals) → LocalsGiven locals → (e : JExpr) → is_null (value locals e) ≡ false
+value_given locals h = java_induct (λ e. is_null (value locals e) ≡ false) (record {
+  local = λ name. rw (value_at locals (JExpr-F.Local name)) (get_given locals name h);
+  number = λ n. rw (value_at locals (JExpr-F.Number n)) refl;
+  paren = λ e given. rw (value_at locals (JExpr-F.Paren e)) given;
+  binary = λ a operator b left right. rw (value_at locals (JExpr-F.Binary a operator b)) refl;
+})
 
 java_expr_is : (p : Place) (e : JExpr) (s : State) → java_expr p e s ≡ Gives (value s.locals e) s
-java_expr_is p (Operand a) s = java_operand_is p a s
-java_expr_is p (Binary a operator b) s = rw (java_operand_is p a s, java_operand_is p b s) refl
+java_expr_is p = java_induct (λ e. (s : State) → java_expr p e s ≡ Gives (value s.locals e) s) (record {
+  local = λ name s. rw (java_at p (JExpr-F.Local name), value_at s.locals (JExpr-F.Local name)) refl;
+  number = λ n s. rw (java_at p (JExpr-F.Number n), value_at s.locals (JExpr-F.Number n)) refl;
+  paren = λ e is s. rw (java_at p (JExpr-F.Paren e), value_at s.locals (JExpr-F.Paren e)) (is s);
+  binary = λ a operator b left right s. rw (java_at p (JExpr-F.Binary a operator b), value_at s.locals (JExpr-F.Binary a operator b), left s, right s) refl;
+})
 
 -- what isn't null is no Torn, whatever the type
 if_used : (b c : Bool) (v : Value) (s : State) → c ≡ false → (if b && c then torn {A = Value} else pure v) s ≡ Gives v s
@@ -72,19 +80,21 @@ used_is : (type : Option KType) (v : Value) (s : State) → is_null v ≡ false 
 used_is None v s h = refl
 used_is (Some type) v s h = if_used (is_non_null type) (is_null v) v s h
 
-kotlin_operand_is : (p : Place) (static : Static) (a : JOperand) (s : State) → LocalsGiven s.locals → kotlin_operand p static (operand_of a) s ≡ Gives (operand_value s.locals a) s
-kotlin_operand_is p static (LocalName name) s h = used_is (declared static name) (get s.locals name) s (get_given s.locals name h)
-kotlin_operand_is p static (Number n) s h = refl
-
-operator_is_int : (type : Option KType) → operator_kind type ≡ Int
+pub operator_is_int : (type : Option KType) → operator_kind type ≡ Int
 operator_is_int None = refl
 operator_is_int (Some type) = refl
 
 kotlin_expr_is : (p : Place) (static : Static) (e : JExpr) (s : State) → LocalsGiven s.locals → kotlin_expr p static (expression_of e) s ≡ Gives (value s.locals e) s
-kotlin_expr_is p static (Operand a) s h = kotlin_operand_is p static a s h
-kotlin_expr_is p static (Binary a operator b) s h =
-    rw (kotlin_operand_is p static a s h, kotlin_operand_is p static b s h)
-    (ap (λ (kind : Kind). Gives (Integer kind (narrowed kind (operated operator (integer_in (operand_value s.locals a)) (integer_in (operand_value s.locals b))))) s) (operator_is_int (type_of static (expression_of (Binary a operator b)))))
+kotlin_expr_is p static = java_induct (λ e. (s : State) → LocalsGiven s.locals → kotlin_expr p static (expression_of e) s ≡ Gives (value s.locals e) s) (record {
+  local = λ name s h.
+      rw (convert_at (JExpr-F.Local name), kotlin_at p static (KExpr-F.Local name), value_at s.locals (JExpr-F.Local name))
+      (used_is (declared static name) (get s.locals name) s (get_given s.locals name h));
+  number = λ n s h. rw (convert_at (JExpr-F.Number n), kotlin_at p static (KExpr-F.Number n), value_at s.locals (JExpr-F.Number n)) refl;
+  paren = λ e is s h. rw (convert_at (JExpr-F.Paren e), kotlin_at p static (KExpr-F.Paren (expression_of e)), value_at s.locals (JExpr-F.Paren e)) (is s h);
+  binary = λ a operator b left right s h.
+      rw (convert_at (JExpr-F.Binary a operator b), kotlin_at p static (KExpr-F.Binary (expression_of a) operator (expression_of b)), value_at s.locals (JExpr-F.Binary a operator b), left s h, right s h)
+      (ap (λ (kind : Kind). Gives (Integer kind (narrowed kind (operated operator (integer_in (value s.locals a)) (integer_in (value s.locals b))))) s) (operator_is_int (type_of static (ke.Binary (expression_of a) operator (expression_of b)))));
+})
 
 -- ---- statements
 
@@ -124,7 +134,7 @@ pub text_same : (p q : Place) (static : Static) (body : List JStmt) (s : State) 
 text_same p q static [] s h = refl
 text_same p q static (Local name e ∷ more) s h =
     rw (kotlin_expr_is p static e s h, java_expr_is q e s)
-    (text_same p q (extended static (statement_of (Local name e))) more (record s { locals = (name, value s.locals e) ∷ s.locals }) (value_given s.locals e h, h))
+    (text_same p q (extended static (statement_of (Local name e))) more (record s { locals = (name, value s.locals e) ∷ s.locals }) (value_given s.locals h e, h))
 text_same p q static (Print e ∷ more) s h =
     rw (kotlin_expr_is p static e s h, java_expr_is q e s)
     (then_same Given' (print_line (value s.locals e) s) (λ a. kotlin_stmts p static (map statement_of more)) (λ a. sequence (map (java_stmt q) more)) (print_line_keeps (value s.locals e) s h)
@@ -137,29 +147,34 @@ if_same true k k' j j' s h g = h
 if_same false k k' j j' s h g = g
 
 -- the text with the argument of `main` in its place
-entered_same : (p q : Place) (body : List JStmt) (vs : List Value) → AllGiven vs → (s : State) → LocalsGiven s.locals →
-    then_do (assign_all (codes "args" ∷ []) vs s) (λ a. kotlin_stmts p main_static (map statement_of body)) ≡ then_do (assign_all (codes "args" ∷ []) vs s) (λ a. sequence (map (java_stmt q) body))
-entered_same p q body [] given s h = text_same p q main_static body s h
-entered_same p q body (v ∷ vs) given s h = text_same p q main_static body (record s { locals = (codes "args", v) ∷ s.locals }) (given.0, h)
+entered_same : (p q : Place) (parameter : Name) (body : List JStmt) (vs : List Value) → AllGiven vs → (s : State) → LocalsGiven s.locals →
+    then_do (assign_all (parameter ∷ []) vs s) (λ a. kotlin_stmts p (main_static parameter) (map statement_of body)) ≡ then_do (assign_all (parameter ∷ []) vs s) (λ a. sequence (map (java_stmt q) body))
+entered_same p q parameter body [] given s h = text_same p q (main_static parameter) body s h
+entered_same p q parameter body (v ∷ vs) given s h = text_same p q (main_static parameter) body (record s { locals = (parameter, v) ∷ s.locals }) (given.0, h)
 
-paid_same : (p q : Place) (body : List JStmt) (vs : List Value) → AllGiven vs → (s : State) → LocalsGiven s.locals → (n : ℕ) →
-    then_do (pay_from s n) (λ a. assign_all (codes "args" ∷ []) vs >> kotlin_stmts p main_static (map statement_of body)) ≡ then_do (pay_from s n) (λ a. assign_all (codes "args" ∷ []) vs >> sequence (map (java_stmt q) body))
-paid_same p q body vs given s h zero = refl
-paid_same p q body vs given s h (suc n) = entered_same p q body vs given (record s { n = n }) h
+paid_same : (p q : Place) (parameter : Name) (body : List JStmt) (vs : List Value) → AllGiven vs → (s : State) → LocalsGiven s.locals → (n : ℕ) →
+    then_do (pay_from s n) (λ a. assign_all (parameter ∷ []) vs >> kotlin_stmts p (main_static parameter) (map statement_of body)) ≡ then_do (pay_from s n) (λ a. assign_all (parameter ∷ []) vs >> sequence (map (java_stmt q) body))
+paid_same p q parameter body vs given s h zero = refl
+paid_same p q parameter body vs given s h (suc n) = entered_same p q parameter body vs given (record s { n = n }) h
 
 -- a start whose arguments aren't null
 abbrev pub IsGiven : Start → Type 0
 IsGiven (Enters site vs) = AllGiven vs
 IsGiven (Runs v) = Unit {0}
 
--- the same methods of a list of classes, whatever bodies they call
+-- the method of a class before others, whatever bodies they call
+entered_first : (kotlin java : Program) (b b' : Bodies) (class : Name) (main : Option JMain) (rest rest' : List Body) (site : Site) (vs : List Value) → AllGiven vs → (s : State) → LocalsGiven s.locals →
+    enter kotlin b rest site vs s ≡ enter java b' rest' site vs s →
+    enter kotlin b (cons_option (option_map (kotlin_main class) (option_map main_of main)) rest) site vs s ≡ enter java b' (cons_option (option_map (java_main class) main) rest') site vs s
+entered_first kotlin java b b' class None rest rest' site vs given s h same = same
+entered_first kotlin java b b' class (Some main) rest rest' site vs given s h same =
+    if_same (same_site (main_site class) site) _ _ _ _ s (paid_same (place kotlin b class) (place java b' class) main.parameter main.body vs given s h s.n) same
+
+-- the same methods of a list of classes
 entered_among : (kotlin java : Program) (b b' : Bodies) (list : List JClass) (site : Site) (vs : List Value) → AllGiven vs → (s : State) → LocalsGiven s.locals →
-    enter kotlin b (map kotlin_main (classes_of list)) site vs s ≡ enter java b' (map java_main list) site vs s
+    enter kotlin b (filter_map kotlin_method (classes_of list)) site vs s ≡ enter java b' (filter_map java_method list) site vs s
 entered_among kotlin java b b' [] site vs given s h = refl
-entered_among kotlin java b b' (class ∷ list) site vs given s h =
-    if_same (same_site (main_site class.name) site) _ _ _ _ s
-    (paid_same (place kotlin b class.name) (place java b' class.name) class.main vs given s h s.n)
-    (entered_among kotlin java b b' list site vs given s h)
+entered_among kotlin java b b' (class ∷ list) site vs given s h = entered_first kotlin java b b' class.name class.main _ _ site vs given s h (entered_among kotlin java b b' list site vs given s h)
 
 module _ (classes : List JClass) where
   abbrev kotlin : Program

@@ -1,30 +1,42 @@
--- Which classes of this form are well typed Java.
-use Rattle.std.specs.Prelude.{◌≡◌, true, false, List, [], ◌∷◌, codes}
-use Rattle.meanings.specs.declared.java.JOperand.{JOperand}
-use Rattle.meanings.specs.declared.java.JOperand.TheVariants.{Local as LocalName, Number}
-use Rattle.meanings.specs.declared.java.JExpr.{JExpr}
-use Rattle.meanings.specs.declared.java.JExpr.TheVariants.{Operand, Binary}
+-- Which files of this form are well typed Java.
+use Rattle.std.specs.Prelude.{◌≡◌, true, false, List, [], ◌∷◌, Option, Some, None}
+use Rattle.meanings.specs.declared.java.JExpr.{JExpr, every-JExpr}
+use Rattle.meanings.specs.declared.java.JExpr.TheOpen.{JExpr-F}
 use Rattle.meanings.specs.declared.java.JStmt.{JStmt}
 use Rattle.meanings.specs.declared.java.JStmt.TheVariants.{Local, Print}
+use Rattle.meanings.specs.declared.java.JMain.{JMain}
 use Rattle.meanings.specs.declared.java.JClass.{JClass}
+use Rattle.meanings.specs.declared.java.JFile.{JFile}
 use Rattle.meanings.specs.Values.{Name, same_name, is_among}
 
 -- a use of a local stands after its declaration (JLS 6.3); these are the names of the locals declared before, all `int`
-abbrev pub KnowsOperand : List Name → JOperand → Type 0
-KnowsOperand locals (LocalName name) = is_among locals name ≡ true
-KnowsOperand locals (Number n) = Unit {0}
+abbrev pub known_by : List Name → JExpr-F JExpr → Type 0
+known_by locals (JExpr-F.Local name) = is_among locals name ≡ true
+known_by locals (JExpr-F.Number n) = Unit {0}
+known_by locals (JExpr-F.Paren inner) = Unit {0}
+known_by locals (JExpr-F.Binary a operator b) = Unit {0}
 
 -- each name of an expression is a local declared before (JLS 6.3)
-abbrev pub Knows : List Name → JExpr → Type 0
-Knows locals (Operand a) = KnowsOperand locals a
-Knows locals (Binary a operator b) = KnowsOperand locals a × KnowsOperand locals b
+unfoldable pub Knows : List Name → JExpr → Type 0
+Knows locals = every-JExpr (known_by locals)
 
 -- a local has another name than the parameter and each local before it (JLS 6.4), and its initializer uses only those before it (JLS 16)
-abbrev pub AreTyped : List Name → List JStmt → Type 0
-AreTyped locals [] = Unit {0}
-AreTyped locals (Local name value ∷ more) = (same_name (codes "args") name ≡ false) × (is_among locals name ≡ false) × Knows locals value × AreTyped (name ∷ locals) more
-AreTyped locals (Print value ∷ more) = Knows locals value × AreTyped locals more
+abbrev pub AreTyped : Name → List Name → List JStmt → Type 0
+AreTyped parameter locals [] = Unit {0}
+AreTyped parameter locals (Local name value ∷ more) =
+    (same_name parameter name ≡ false) × (is_among locals name ≡ false) × Knows locals value × AreTyped parameter (name ∷ locals) more
+AreTyped parameter locals (Print value ∷ more) = Knows locals value × AreTyped parameter locals more
 
--- a class whose `main` is well typed
-abbrev pub JTyped : JClass → Type 0
-JTyped class = AreTyped [] class.main
+-- a `main`, where there is one, whose statements are so
+abbrev pub MainIsTyped : Option JMain → Type 0
+MainIsTyped None = Unit {0}
+MainIsTyped (Some main) = AreTyped main.parameter [] main.body
+
+-- a class, where there is one, whose `main` is well typed
+abbrev pub ClassIsTyped : Option JClass → Type 0
+ClassIsTyped None = Unit {0}
+ClassIsTyped (Some class) = MainIsTyped class.main
+
+-- a file whose class is well typed
+abbrev pub JTyped : JFile → Type 0
+JTyped file = ClassIsTyped file.class

@@ -1,26 +1,28 @@
 -- Java: what each construct of a typed tree does, and the program of a project.
-use Rattle.std.specs.Prelude.{ℕ, pos, true, false, List, [], ◌∷◌, map, codes}
-use Rattle.meanings.specs.declared.java.JOperand.{JOperand}
-use Rattle.meanings.specs.declared.java.JOperand.TheVariants.{Local as LocalName, Number}
-use Rattle.meanings.specs.declared.java.JExpr.{JExpr}
-use Rattle.meanings.specs.declared.java.JExpr.TheVariants.{Operand, Binary}
+use Rattle.std.specs.Prelude.{ℕ, pos, true, false, List, [], ◌∷◌, map, filter_map, Option, option_map}
+use Rattle.meanings.specs.declared.java.JExpr.{JExpr, fold-JExpr}
+use Rattle.meanings.specs.declared.java.JExpr.TheOpen.{JExpr-F}
 use Rattle.meanings.specs.declared.java.JStmt.{JStmt}
 use Rattle.meanings.specs.declared.java.JStmt.TheVariants.{Local, Print}
+use Rattle.meanings.specs.declared.java.JMain.{JMain}
 use Rattle.meanings.specs.declared.java.JClass.{JClass}
-use Rattle.meanings.specs.Values.{Value, Integer, Int, Answer}
+use Rattle.meanings.specs.declared.java.JFile.{JFile}
+use Rattle.meanings.specs.Values.{Name, Value, Integer, Int, Answer}
 use Rattle.meanings.specs.Outcome.{Meaning, pure, ◌>>=◌, local, assign}
 use Rattle.meanings.specs.Machine.{Place, print_line, arithmetic, binary, sequence}
 use Rattle.meanings.specs.Program.{Program, Body, Start, Turn, thread, is_library_error, main_site, main_entry}
 
--- a simple name (JLS 6.5.6.1) or a decimal literal (JLS 3.10.1, 15.8.1)
-abbrev pub java_operand : Place → JOperand → Meaning Value
-java_operand p (LocalName name) = local name
-java_operand p (Number n) = pure (Integer Int (pos n))
+-- one form, by what its parts do: a simple name (JLS 6.5.6.1), a decimal literal (JLS 3.10.1, 15.8.1), a parenthesized
+-- expression (JLS 15.8.5), `+ - *` of two ints, the left one first (JLS 15.7.1, 15.17.1, 15.18.2)
+abbrev pub java_by : Place → JExpr-F (Meaning Value) → Meaning Value
+java_by p (JExpr-F.Local name) = local name
+java_by p (JExpr-F.Number n) = pure (Integer Int (pos n))
+java_by p (JExpr-F.Paren inner) = inner
+java_by p (JExpr-F.Binary a operator b) = binary (arithmetic Int operator) a b
 
--- `+ - *` of two ints (JLS 15.17.1, 15.18.2)
-abbrev pub java_expr : Place → JExpr → Meaning Value
-java_expr p (Operand a) = java_operand p a
-java_expr p (Binary a operator b) = binary (arithmetic Int operator) (java_operand p a) (java_operand p b)
+-- an expression
+unfoldable pub java_expr : Place → JExpr → Meaning Value
+java_expr p = fold-JExpr (Meaning Value) (java_by p)
 
 -- a local with its initializer (JLS 14.4.2); `println` as an expression statement (JLS 14.8)
 abbrev pub java_stmt : Place → JStmt → Meaning (Unit {0})
@@ -31,18 +33,30 @@ java_stmt p (Print value) = java_expr p value >>= print_line
 abbrev pub java_stmts : Place → List JStmt → List (Meaning (Unit {0}))
 java_stmts p body = map (java_stmt p) body
 
--- `main` (JLS 12.1.4)
-abbrev pub java_main : JClass → Body
-java_main class = record { site = main_site class.name; parameters = codes "args" ∷ []; text = λ p. sequence (java_stmts p class.main) }
+-- `main` of a class of this name (JLS 12.1.4)
+abbrev pub java_main : Name → JMain → Body
+java_main class main = record { site = main_site class; parameters = main.parameter ∷ []; text = λ p. sequence (java_stmts p main.body) }
+
+-- the method of a class, where it has one
+abbrev pub java_method : JClass → Option Body
+java_method class = option_map (java_main class.name) class.main
+
+-- the name of a class that has a `main`
+abbrev pub entry_class : JClass → Option Name
+entry_class class = option_map (λ main. class.name) class.main
+
+-- the classes of a project's files
+abbrev pub classes_in : List JFile → List JClass
+classes_in files = filter_map (λ file. file.class) files
 
 -- The program of a project's classes. They have no static initializers, so they are idle: they are never touched (own rule).
 abbrev pub java_program : List JClass → Program
 java_program classes = record {
-  methods = map java_main classes;
+  methods = filter_map java_method classes;
   constructors = [];
   lambdas = [];
   initializers = [];
-  entry = main_entry (map (λ class. class.name) classes);
+  entry = main_entry (filter_map entry_class classes);
   defaults = [];
   is_idle = λ name. true;
   touches = λ own name. false;

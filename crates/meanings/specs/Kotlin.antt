@@ -1,13 +1,14 @@
 -- Kotlin: what each construct of a tree does at a place with its declared types, and the program of a project.
-use Rattle.std.specs.Prelude.{ℕ, pos, true, false, ◌&&◌, List, [], ◌∷◌, map, Option, Some, None, if◌then◌else◌, codes}
-use Rattle.meanings.specs.declared.kotlin.KOperand.{KOperand}
-use Rattle.meanings.specs.declared.kotlin.KOperand.TheVariants.{Local, Number}
-use Rattle.meanings.specs.declared.kotlin.KExpr.{KExpr}
-use Rattle.meanings.specs.declared.kotlin.KExpr.TheVariants.{Operand, Binary}
+use Rattle.std.specs.Prelude.{ℕ, pos, true, false, ◌&&◌, List, [], ◌∷◌, filter_map, Option, Some, None, option_map, if◌then◌else◌}
+use Rattle.meanings.specs.declared.kotlin.KExpr.{KExpr, para-KExpr}
+use Rattle.meanings.specs.declared.kotlin.KExpr.TheOpen.{KExpr-F}
+use Rattle.meanings.specs.declared.kotlin.KExpr.TheVariants as ke
 use Rattle.meanings.specs.declared.kotlin.KStmt.{KStmt}
 use Rattle.meanings.specs.declared.kotlin.KStmt.TheVariants.{Val, Print}
+use Rattle.meanings.specs.declared.kotlin.KMain.{KMain}
 use Rattle.meanings.specs.declared.kotlin.KClass.{KClass}
-use Rattle.meanings.specs.Values.{Kind, Value, Integer, Int, is_null, Answer}
+use Rattle.meanings.specs.declared.kotlin.KFile.{KFile}
+use Rattle.meanings.specs.Values.{Name, Kind, Value, Integer, Int, is_null, Answer}
 use Rattle.meanings.specs.Outcome.{Meaning, pure, ◌>>=◌, ◌>>◌, torn, local, assign}
 use Rattle.meanings.specs.Machine.{Place, print_line, arithmetic, binary}
 use Rattle.meanings.specs.Program.{Program, Body, Start, Turn, thread, is_library_error, main_site, main_entry}
@@ -18,21 +19,23 @@ abbrev pub used : Option KType → Value → Meaning Value
 used None v = pure v
 used (Some type) v = if is_non_null type && is_null v then torn else pure v
 
--- a name, by the type of its declaration, or a literal (Kotlin, "Built-in types and their operations")
-abbrev pub kotlin_operand : Place → Static → KOperand → Meaning Value
-kotlin_operand p static (Local name) = local name >>= used (declared static name)
-kotlin_operand p static (Number n) = pure (Integer Int (pos n))
-
 -- the class whose operator is meant, by the type of the whole (Kotlin, "Overload resolution"); this form has that of Int alone
 abbrev pub operator_kind : Option KType → Kind
 operator_kind None = Int
 operator_kind (Some type) = Int
 
--- `plus`, `minus` and `times` (Kotlin, class Int: the low 32 bits)
-abbrev pub kotlin_expr : Place → Static → KExpr → Meaning Value
-kotlin_expr p static (Operand a) = kotlin_operand p static a
-kotlin_expr p static (Binary a operator b) =
-    binary (arithmetic (operator_kind (type_of static (Binary a operator b))) operator) (kotlin_operand p static a) (kotlin_operand p static b)
+-- one form, by its parts and what they do: a name, by the type of its declaration, a literal (Kotlin, "Built-in types and their
+-- operations"), a parenthesized expression, `plus`, `minus` and `times`, the receiver first (Kotlin, class Int: the low 32 bits)
+abbrev pub kotlin_by : Place → Static → KExpr-F (KExpr × Meaning Value) → Meaning Value
+kotlin_by p static (KExpr-F.Local name) = local name >>= used (declared static name)
+kotlin_by p static (KExpr-F.Number n) = pure (Integer Int (pos n))
+kotlin_by p static (KExpr-F.Paren inner) = inner.1
+kotlin_by p static (KExpr-F.Binary a operator b) =
+    binary (arithmetic (operator_kind (type_of static (ke.Binary a.0 operator b.0))) operator) a.1 b.1
+
+-- an expression
+unfoldable pub kotlin_expr : Place → Static → KExpr → Meaning Value
+kotlin_expr p static = para-KExpr (Meaning Value) (kotlin_by p static)
 
 -- a property declaration (Kotlin, "Local property declaration"); a call of `println`
 abbrev pub kotlin_stmt : Place → Static → KStmt → Meaning (Unit {0})
@@ -44,18 +47,30 @@ abbrev pub kotlin_stmts : Place → Static → List KStmt → Meaning (Unit {0})
 kotlin_stmts p static [] = pure tt
 kotlin_stmts p static (statement ∷ more) = kotlin_stmt p static statement >> kotlin_stmts p (extended static statement) more
 
--- `main`, which the companion holds
-abbrev pub kotlin_main : KClass → Body
-kotlin_main class = record { site = main_site class.name; parameters = codes "args" ∷ []; text = λ p. kotlin_stmts p main_static class.main }
+-- `main` of a class of this name, which the companion holds
+abbrev pub kotlin_main : Name → KMain → Body
+kotlin_main class main = record { site = main_site class; parameters = main.parameter ∷ []; text = λ p. kotlin_stmts p (main_static main.parameter) main.body }
+
+-- the method of a class, where it has one
+abbrev pub kotlin_method : KClass → Option Body
+kotlin_method class = option_map (kotlin_main class.name) class.main
+
+-- the name of a class that has a `main`
+abbrev pub entry_class : KClass → Option Name
+entry_class class = option_map (λ main. class.name) class.main
+
+-- the classes of a project's files
+abbrev pub classes_in : List KFile → List KClass
+classes_in files = filter_map (λ file. file.class) files
 
 -- The program of a project's classes. Their companions have no property and no `init`, so the classes are idle (own rule).
 abbrev pub kotlin_program : List KClass → Program
 kotlin_program classes = record {
-  methods = map kotlin_main classes;
+  methods = filter_map kotlin_method classes;
   constructors = [];
   lambdas = [];
   initializers = [];
-  entry = main_entry (map (λ class. class.name) classes);
+  entry = main_entry (filter_map entry_class classes);
   defaults = [];
   is_idle = λ name. true;
   touches = λ own name. false;

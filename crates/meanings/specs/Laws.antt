@@ -1,8 +1,8 @@
 -- What holds of every program, world and run.
 use Rattle.std.specs.Prelude.{◌≡◌, ◌↔◌, ℕ, zero, suc, ◌+◌, ◌≤◌, Bool, true, false, List, [], ◌∷◌, ◌++◌, length, Some, slice_get, if◌then◌else◌, ◌==◌}
-use Rattle.meanings.specs.declared.java.JClass.{JClass}
+use Rattle.meanings.specs.declared.java.JFile.{JFile}
 use Rattle.meanings.specs.Values.{Name, same_name, Field, Value, same_value, Step, Touch, InitEnd, Alloc, Put, PutStatic, PutElem, Enter, Exit, Print, ReadByte, Lib, Raise, Start as StartStep, End, Answer}
-use Rattle.meanings.specs.Convert.{class_of}
+use Rattle.meanings.specs.Convert.{file_of}
 use Rattle.meanings.specs.JTyped.{JTyped}
 use Rattle.meanings.specs.JNamed.{JNamed}
 use Rattle.meanings.specs.KSpells.{KSpells}
@@ -18,13 +18,13 @@ SameIsEqual = (v w : Value) → (same_value v w ≡ true) ↔ (v ≡ w)
 
 -- ---- typing
 
--- the Kotlin of a well typed class is well typed
+-- the Kotlin of a well typed file is well typed
 abbrev pub TypesAreKept : Type 0
-TypesAreKept = (class : JClass) → JTyped class → KTyped (class_of class)
+TypesAreKept = (file : JFile) → JTyped file → KTyped (file_of file)
 
--- the canonical text of the Kotlin of a class spells it
+-- the canonical text of the Kotlin of a file spells it
 abbrev pub SpellingIsKept : Type 0
-SpellingIsKept = (class : JClass) → JNamed class → KSpells (class_of class) (KText (class_of class))
+SpellingIsKept = (file : JFile) → JNamed file → KSpells (file_of file) (KText (file_of file))
 
 -- ---- threads
 

@@ -1,5 +1,5 @@
+pub mod Levels
 pub mod Convert
-pub mod JSpells
 pub mod KText
 pub mod Values
 pub mod Outcome

@@ -42,7 +42,7 @@ is_library_error name = if same_name name (codes "Error") then true else (if sam
 abbrev pub run_site : Site
 run_site = record { class = codes "Runnable"; is_static = false; ordinal = 0 }
 
--- ---- classes of this form, whose one method is `main`
+-- ---- classes of this form, whose one method, where they have one, is `main`
 
 -- `main` is the first of the static part
 abbrev pub main_site : Name → Site

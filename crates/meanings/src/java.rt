@@ -1,19 +1,21 @@
-// Java trees: one class, whose `main` declares integers and prints them.
+// Java trees: a file's package and its class, whose `main` declares integers and prints them.
 
+use crate::names::Names;
 use crate::operators::Operator;
 use j2k_base::{Name, Series};
+use sqlite_items::Boxed;
 
-/// The name of a local, or a number.
-#[derive(Debug, Drop)]
-pub enum JOperand {
-    Local(Name),
-    Number(u32),
-}
-
+/// An expression of type `int`.
 #[derive(Debug, Drop)]
 pub enum JExpr {
-    Operand(JOperand),
-    Binary(JOperand, Operator, JOperand),
+    /// The name of a local (JLS 6.5.6.1).
+    Local(Name),
+    /// A decimal literal (JLS 3.10.1).
+    Number(u32),
+    /// `(e)` (JLS 15.8.5).
+    Paren(Boxed<JExpr>),
+    /// The operands of an operator (JLS 15.17, 15.18).
+    Binary(Boxed<JExpr>, Operator, Boxed<JExpr>),
 }
 
 #[derive(Debug, Drop)]
@@ -26,27 +28,23 @@ pub enum JStmt {
 
 pub type JStmts = Series<JStmt>;
 
-/// A public class with the statements of its `main`.
+/// `public static void main(String[] p)`: the name of its parameter, and its statements (JLS 12.1.4).
+#[derive(Debug, Drop)]
+pub struct JMain {
+    pub parameter: Name,
+    pub body: JStmts,
+}
+
+/// A public class, with its `main` or without a member (JLS 8.1).
 #[derive(Debug, Drop)]
 pub struct JClass {
     pub name: Name,
-    pub main: JStmts,
+    pub main: Option<JMain>,
 }
 
-// The fixed parts of the spelling.
-
-pub const JAVA_CLASS: &str = "public class ";
-
-pub const JAVA_MAIN: &str = " {\n    public static void main(String[] args) {\n";
-
-pub const JAVA_INT: &str = "        int ";
-
-pub const JAVA_IS: &str = " = ";
-
-pub const JAVA_LOCAL_END: &str = ";\n";
-
-pub const JAVA_PRINT: &str = "        System.out.println(";
-
-pub const JAVA_PRINT_END: &str = ");\n";
-
-pub const JAVA_FOOT: &str = "    }\n}\n";
+/// A compilation unit (JLS 7.3): the parts of its package's name, none where it has no package line, and its class or none.
+#[derive(Debug, Drop)]
+pub struct JFile {
+    pub package: Names,
+    pub class: Option<JClass>,
+}

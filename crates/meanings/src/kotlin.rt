@@ -1,19 +1,21 @@
-// Kotlin trees: one class, whose companion's `main` declares integers and prints them.
+// Kotlin trees: a file's package and its class, whose companion's `main` declares integers and prints them.
 
+use crate::names::Names;
 use crate::operators::Operator;
 use j2k_base::{Name, Series};
+use sqlite_items::Boxed;
 
-/// The name of a local, or a number.
-#[derive(Debug, Drop)]
-pub enum KOperand {
-    Local(Name),
-    Number(u32),
-}
-
+/// An expression of type `Int`.
 #[derive(Debug, Drop)]
 pub enum KExpr {
-    Operand(KOperand),
-    Binary(KOperand, Operator, KOperand),
+    /// The name of a local.
+    Local(Name),
+    /// A decimal literal.
+    Number(u32),
+    /// `(e)`.
+    Paren(Boxed<KExpr>),
+    /// The operands of an operator.
+    Binary(Boxed<KExpr>, Operator, Boxed<KExpr>),
 }
 
 #[derive(Debug, Drop)]
@@ -26,19 +28,44 @@ pub enum KStmt {
 
 pub type KStmts = Series<KStmt>;
 
-/// A class with the statements of its companion's `main`.
+/// `@JvmStatic fun main(p: Array<String>)` in a companion: the name of its parameter, and its statements.
+#[derive(Debug, Drop)]
+pub struct KMain {
+    pub parameter: Name,
+    pub body: KStmts,
+}
+
+/// A class, with its companion's `main` or without a member.
 #[derive(Debug, Drop)]
 pub struct KClass {
     pub name: Name,
-    pub main: KStmts,
+    pub main: Option<KMain>,
+}
+
+/// A Kotlin file: the parts of its package's name, none where it has no package header, and its class or none.
+#[derive(Debug, Drop)]
+pub struct KFile {
+    pub package: Names,
+    pub class: Option<KClass>,
 }
 
 // The fixed parts of the canonical text.
 
+pub const KOTLIN_PACKAGE: &str = "package ";
+
+pub const KOTLIN_DOT: &str = ".";
+
+pub const KOTLIN_PACKAGE_END: &str = "\n";
+
+pub const KOTLIN_EMPTY_LINE: &str = "\n";
+
 pub const KOTLIN_CLASS: &str = "class ";
 
-pub const KOTLIN_MAIN: &str =
-    " {\n    companion object {\n        @JvmStatic fun main(args: Array<String>) {\n";
+pub const KOTLIN_CLASS_OPEN: &str = " {\n";
+
+pub const KOTLIN_MAIN: &str = "    companion object {\n        @JvmStatic fun main(";
+
+pub const KOTLIN_MAIN_OPEN: &str = ": Array<String>) {\n";
 
 pub const KOTLIN_VAL: &str = "            val ";
 
@@ -50,4 +77,6 @@ pub const KOTLIN_PRINT: &str = "            println(";
 
 pub const KOTLIN_PRINT_END: &str = ")\n";
 
-pub const KOTLIN_FOOT: &str = "        }\n    }\n}\n";
+pub const KOTLIN_MAIN_END: &str = "        }\n    }\n";
+
+pub const KOTLIN_CLASS_END: &str = "}\n";

@@ -1,8 +1,9 @@
 // Laws of the meanings: each is the contract of a function that does nothing.
 ghost use Rattle.std.specs.Prelude.{List};
 ghost use Rattle.meanings.specs.declared.java.JClass.{JClass};
+ghost use Rattle.meanings.specs.declared.java.JFile.{JFile};
 ghost use Rattle.meanings.specs.declared.kotlin.KClass.{KClass};
-ghost use Rattle.meanings.specs.Convert.{classes_of};
+ghost use Rattle.meanings.specs.Convert.{files_of};
 ghost use Rattle.meanings.specs.Java.{java_program};
 ghost use Rattle.meanings.specs.Kotlin.{kotlin_program};
 ghost use Rattle.meanings.specs.SameSteps.{SameSteps};
@@ -11,7 +12,7 @@ ghost use Rattle.meanings.specs.KSpells.{SpellsOne};
 
 /// The Kotlin of a project makes exactly the steps of the project, in every run, and Torn never comes.
 pub fn same_steps()
-    ensures { (classes : List JClass) → SameSteps classes (classes_of classes) }
+    ensures { (files : List JFile) → SameSteps files (files_of files) }
 {}
 
 /// A thread is the same with every larger depth, in both languages.
@@ -52,17 +53,17 @@ pub fn same_is_equal()
     ensures { SameIsEqual }
 {}
 
-/// The Kotlin of a well typed class is well typed.
+/// The Kotlin of a well typed file is well typed.
 pub fn types_are_kept()
     ensures { TypesAreKept }
 {}
 
-/// Bytes spell at most one Kotlin tree.
+/// Bytes spell at most one Kotlin file.
 pub fn spells_one()
     ensures { SpellsOne }
 {}
 
-/// The canonical text of the Kotlin of a class spells it.
+/// The canonical text of the Kotlin of a file spells it.
 pub fn spelling_is_kept()
     ensures { SpellingIsKept }
 {}

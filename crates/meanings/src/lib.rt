@@ -4,4 +4,5 @@
 pub mod java;
 pub mod kotlin;
 pub mod laws;
+pub mod names;
 pub mod operators;

@@ -11,6 +11,10 @@ returns-then-len-gt0-clause-answered g c =
 pub convert_loaded-requires : goal.convert_loaded-requires
 convert_loaded-requires g c =
     let none : length c.in_ok-there.there ≤ 0 = omega arith in
-    loaded_differ (g.D.Disk.held c.args.disk.now) (g.D.Disk.held c.load.new.disk) c.args.src.now c.args.dst.now c.in_ok-there.there c.in_ok-loaded.loaded
-    (c.load.ensures.kept ∙ c.list-2.ensures.kept ∙ c.list.ensures.kept) (rw c.list.ensures.kept at c.in_ok-there.ensures.listed) none
-    (rw c.list.ensures.kept at (rw c.list-2.ensures.kept at c.in_ok-loaded.ensures.loaded))
+    record {
+      differ =
+          loaded_differ (g.D.Disk.held c.args.disk.now) (g.D.Disk.held c.load.new.disk) c.args.src.now c.args.dst.now c.in_ok-there.there c.in_ok-loaded.loaded
+          (c.load.ensures.kept ∙ c.list-2.ensures.kept ∙ c.list.ensures.kept) (rw c.list.ensures.kept at c.in_ok-there.ensures.listed) none
+          (rw c.list.ensures.kept at (rw c.list-2.ensures.kept at c.in_ok-loaded.ensures.loaded));
+      small = c.in_ok-loaded.ensures.small;
+    }

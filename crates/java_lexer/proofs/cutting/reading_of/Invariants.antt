@@ -1,4 +1,4 @@
-use Rattle.std.proofs.Common.{length, ◌-◌}
+use Rattle.std.proofs.Common.{length, ◌≤◌, ◌-◌}
 use Rattle.java_letters.specs.Letters.{letters, text_of, IsAt}
 use Rattle.java_lexer.proofs.Cuts.{GoesOn}
 use Rattle.java_lexer.proofs.cutting.reading_of.Given as goal
@@ -6,6 +6,7 @@ use Rattle.java_lexer.proofs.cutting.reading_of.Given as goal
 abbrev pub invariant-pieces : goal.invariant-pieces
 invariant-pieces l = record {
   at : IsAt l.bytes l.at;
+  few : length l.tokens ≤ l.at.position.offset;
   goes_on : GoesOn (text_of l.bytes) l.before (letters l.bytes l.at) l.tokens l.comments;
 }
 

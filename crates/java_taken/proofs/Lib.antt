@@ -1,0 +1,8 @@
+mod First
+mod Forms
+mod Heads
+mod Loops
+mod Scopes
+pub mod Taken
+mod Typing
+mod Variants

@@ -1,0 +1,103 @@
+-- What a statement of `main` is judged to be after the declarations of locals.
+use Rattle.std.specs.Prelude.{ℕ, Bool, true, false, ◌&&◌, not, if◌then◌else◌, List, [], ◌∷◌, ◌++◌, Option, Some, None, codes}
+use Rattle.std.specs.Str.{bytes_eq}
+use Rattle.java_tree.specs.declared.tokens.Position.{Position}
+use Rattle.java_tree.specs.declared.types.Primitive.TheVariants as primitive
+use Rattle.java_tree.specs.declared.types.JType.{JType, out-JType}
+use Rattle.java_tree.specs.declared.types.JType.TheOpen.{JType-F}
+use Rattle.java_tree.specs.declared.exprs.JExpr.{JExpr, out-JExpr}
+use Rattle.java_tree.specs.declared.exprs.JExpr.TheOpen.{JExpr-F}
+use Rattle.java_heads.specs.declared.declarations.JValue.{JValue}
+use Rattle.java_heads.specs.declared.declarations.JDeclarator.{JDeclarator}
+use Rattle.java_heads.specs.declared.declarations.JDeclaration.{JDeclaration}
+use Rattle.java_heads.specs.declared.statements.JSimple.{JSimple}
+use Rattle.java_heads.specs.declared.statements.JSimple.TheVariants as simple
+use Rattle.java_units.specs.declared.statements.JBody.{JBody}
+use Rattle.java_units.specs.declared.statements.JCase.{JCase}
+use Rattle.java_units.specs.declared.statements.JCaseGroup.{JCaseGroup}
+use Rattle.java_units.specs.declared.statements.JCatch.{JCatch}
+use Rattle.java_units.specs.declared.statements.JMember.{JMember}
+use Rattle.java_units.specs.declared.statements.JStatement.{JStatement, out-JStatement}
+use Rattle.java_units.specs.declared.statements.JBody.TheOpen.{JStatement-F}
+use Rattle.meanings.specs.declared.java.JStmt.{JStmt}
+use Rattle.meanings.specs.declared.java.JStmt.TheVariants.{Local, Print}
+use Rattle.java_taken.specs.Judged.{Judged, ◌>>=◌}
+use Rattle.java_taken.specs.Names.{is_free, contains_name}
+use Rattle.java_taken.specs.Places.{statement_at}
+use Rattle.java_taken.specs.Expressions.{expression}
+use Rattle.java_taken.specs.declared.words.TheConstants.{SYSTEM, OUT, PRINTLN}
+
+-- the name of a local: none of a class of the project, of the parameter, or of a local that is declared before (JLS 6.4)
+abbrev pub may_declare : List (List ℕ) → List ℕ → List (List ℕ) → List ℕ → Bool
+may_declare classes parameter names name =
+    is_free name && not (contains_name classes name) && not (bytes_eq name parameter) && not (contains_name names name)
+
+-- `System.out` (JLS 6.5.6.2)
+abbrev pub is_system_by : JExpr-F JExpr → Bool
+is_system_by (JExpr-F.Name name at) = bytes_eq name SYSTEM.now
+is_system_by _ = false
+
+unfoldable pub is_system : JExpr → Bool
+is_system x = is_system_by (out-JExpr x)
+
+abbrev pub is_out_by : JExpr-F JExpr → Bool
+is_out_by (JExpr-F.Field left dot name at) = is_system left && bytes_eq name OUT.now
+is_out_by _ = false
+
+unfoldable pub is_out : JExpr → Bool
+is_out x = is_out_by (out-JExpr x)
+
+abbrev pub is_int_by : JType-F JType → Bool
+is_int_by (JType-F.Primitive primitive.Int at) = true
+is_int_by _ = false
+
+-- `int` (JLS 4.2)
+abbrev pub is_int : JType → Bool
+is_int x = is_int_by (out-JType x)
+
+-- After the declarations of the names; the first token of the statement stands at the position.
+module _ (names : List (List ℕ)) (at : Position) where
+  -- `System.out.println(e);` (JLS 14.8, 15.12)
+  abbrev pub printed : List JExpr → Judged JStmt
+  printed (x ∷ []) = expression names x >>= λ e. Judged.Typed (Print e)
+  printed _ = Judged.Open at
+
+  abbrev pub called : JExpr-F JExpr → Judged JStmt
+  called (JExpr-F.Method left dot name name_at lp args commas rp) = if is_out left && bytes_eq name PRINTLN.now then printed args else Judged.Open at
+  called _ = Judged.Open at
+
+-- The first two are the names of the project's classes and that of the parameter.
+module _ (classes : List (List ℕ)) (parameter : List ℕ) (names : List (List ℕ)) (at : Position) where
+  -- a name with its value, whose name comes first (JLS 14.4.2)
+  abbrev pub valued : JDeclarator → Option JValue → Judged JStmt
+  valued x None = Judged.Open at
+  valued x (Some value) =
+      if may_declare classes parameter names x.name then expression names value.tree >>= (λ e. Judged.Typed (Local x.name e)) else Judged.Open x.at
+
+  -- `int x = e;` (JLS 14.4)
+  abbrev pub declared : Option Position → Bool → List JDeclarator → Judged JStmt
+  declared None true (x ∷ []) = valued x x.value
+  declared _ _ _ = Judged.Open at
+
+  abbrev pub simple_of : JSimple → Judged JStmt
+  simple_of (simple.Declaration x) = declared x.is_final (is_int x.kind) x.names
+  simple_of (simple.Expression x) = called names at (out-JExpr x)
+  simple_of _ = Judged.Open at
+
+  abbrev pub statement_of : JStatement-F JBody JMember JStatement JCase JCaseGroup JCatch → Judged JStmt
+  statement_of (JStatement-F.Simple x bodies end) = simple_of x
+  statement_of _ = Judged.Open at
+
+-- the names that are declared after a statement
+abbrev pub names_after : List (List ℕ) → JStmt → List (List ℕ)
+names_after names (Local name value) = if contains_name names name then names else names ++ name ∷ []
+names_after names (Print value) = names
+
+module _ (classes : List (List ℕ)) (parameter : List ℕ) where
+  unfoldable pub statement : List (List ℕ) → JStatement → Judged JStmt
+  statement names x = statement_of classes parameter names (statement_at x) (out-JStatement x)
+
+  -- the statements of a block (JLS 14.2)
+  abbrev pub statements : List (List ℕ) → List JStatement → Judged (List JStmt)
+  statements names [] = Judged.Typed []
+  statements names (x ∷ xs) = statement names x >>= λ s. statements (names_after names s) xs >>= λ more. Judged.Typed (s ∷ more)

@@ -1,0 +1,121 @@
+//! Expressions.
+
+ghost use Rattle.std.specs.Prelude.{◌≡◌};
+ghost use Rattle.java_taken.specs.Expressions as s;
+ghost use Rattle.java_taken.specs.Judged.{Judges};
+
+use crate::judged::Refusal;
+use crate::names::Names;
+use crate::places::first_at;
+use j2k_base::Name;
+use java_tree::{BinaryOp, JExpr, JLiteral, Position};
+use meanings::java::JExpr as TExpr;
+use meanings::operators::Operator;
+use sqlite_items::Boxed;
+use std::alloc::Global;
+
+/// The largest `int`.
+pub(crate) const MAX_NUMBER: u32 = 2_147_483_647;
+
+fn operator_of(op: BinaryOp) -> Option<Operator>
+    ensures { result ≡ s.operator_of op }
+{
+    match op {
+        BinaryOp::Add => Some(Operator::Plus),
+        BinaryOp::Subtract => Some(Operator::Minus),
+        BinaryOp::Multiply => Some(Operator::Times),
+        _ => None,
+    }
+}
+
+#[tactic(auto, unfolding(crate::specs::Expressions::is_number))]
+fn is_number(x: &TExpr) -> bool
+    ensures { result ≡ s.is_number x.now }
+{
+    matches!(x, TExpr::Number(_))
+}
+
+fn local(alloc: Global, names: &Names, name: &Name, at: Position) -> Result<Boxed<TExpr>, Refusal>
+    ensures { Judges (s.local_of names.now name.now at) result }
+{
+    if !names.contains(name.as_str()) {
+        return Err(Refusal::Open(at));
+    }
+    let name = Name::from_str(alloc, name.as_str())?;
+    Ok(Boxed::new(alloc, TExpr::Local(name))?)
+}
+
+fn number(alloc: Global, literal: &JLiteral, at: Position) -> Result<Boxed<TExpr>, Refusal>
+    ensures { Judges (s.number_of literal.now at) result }
+{
+    match literal {
+        JLiteral::Integer(n) if *n <= MAX_NUMBER => Ok(Boxed::new(alloc, TExpr::Number(*n))?),
+        _ => Err(Refusal::Open(at)),
+    }
+}
+
+fn paren(alloc: Global, at: Position, inner: Boxed<TExpr>) -> Result<Boxed<TExpr>, Refusal>
+    ensures { Judges (s.paren_of at inner) result }
+{
+    if is_number(inner.get()) {
+        return Err(Refusal::Open(at));
+    }
+    Ok(Boxed::new(alloc, TExpr::Paren(inner))?)
+}
+
+fn binary(
+    alloc: Global,
+    at: Position,
+    left: Boxed<TExpr>,
+    operator: Operator,
+    right: Boxed<TExpr>,
+) -> Result<Boxed<TExpr>, Refusal>
+    ensures { Judges (s.binary_of at left operator right) result }
+{
+    if is_number(left.get()) && is_number(right.get()) {
+        return Err(Refusal::Open(at));
+    }
+    Ok(Boxed::new(alloc, TExpr::Binary(left, operator, right))?)
+}
+
+/// The typed tree of an expression after the declarations of the names (JLS 15).
+#[tactic(auto, using(crate::proofs::Variants::forms))]
+pub(crate) fn expression(alloc: Global, names: &Names, x: &JExpr) -> Result<Boxed<TExpr>, Refusal>
+    ensures { Judges (s.expression names.now x.now) result }
+{
+    match x {
+        JExpr::Name(name, at) => local(alloc, names, name, *at),
+        JExpr::Literal(literal, at) => number(alloc, literal, *at),
+        JExpr::Paren(at, inner, _) => {
+            let inner = expression(alloc, names, inner.get())?;
+            paren(alloc, *at, inner)
+        }
+        JExpr::Binary(left, op, _, right) => match operator_of(*op) {
+            Some(operator) => {
+                let first = expression(alloc, names, left.get())?;
+                let second = expression(alloc, names, right.get())?;
+                binary(alloc, first_at(x), first, operator, second)
+            }
+            None => Err(Refusal::Open(first_at(x))),
+        },
+        JExpr::This(..)
+        | JExpr::Call(..)
+        | JExpr::SuperCall(..)
+        | JExpr::Field(..)
+        | JExpr::Method(..)
+        | JExpr::Element(..)
+        | JExpr::Postfix(..)
+        | JExpr::Prefix(..)
+        | JExpr::MinusLeast(..)
+        | JExpr::Cast(..)
+        | JExpr::Instanceof(..)
+        | JExpr::Conditional(..)
+        | JExpr::Assign(..)
+        | JExpr::Lambda(..)
+        | JExpr::LambdaBlock(..)
+        | JExpr::New(..)
+        | JExpr::NewArray(..)
+        | JExpr::NewFilled(..)
+        | JExpr::Braces(..) => Err(Refusal::Open(first_at(x))),
+    }
+}

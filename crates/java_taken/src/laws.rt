@@ -1,0 +1,28 @@
+//! What is promised of a file that is taken, of a unit that spells some tokens.
+
+ghost use Rattle.std.specs.Prelude.{◌≡◌, ℕ, List};
+ghost use Rattle.java_tree.specs.Seen.{Tokens};
+ghost use Rattle.java_units.specs.Standing.{UnitSpells};
+ghost use Rattle.java_units.specs.declared.units.JUnit.{JUnit};
+ghost use Rattle.meanings.specs.Convert.{file_of};
+ghost use Rattle.meanings.specs.JNamed.{JNamed};
+ghost use Rattle.meanings.specs.JTyped.{JTyped};
+ghost use Rattle.meanings.specs.KSpells.{HasNoKeyword};
+ghost use Rattle.java_taken.specs.declared.judged.TypedFile.{TypedFile};
+ghost use Rattle.java_taken.specs.Judged as j;
+ghost use Rattle.java_taken.specs.Units.{unit};
+
+/// It is well typed (JLS 6.3, 6.4, 16).
+pub fn is_typed()
+    ensures { (classes earlier : List (List ℕ)) (x : JUnit) (f : TypedFile) (text : Tokens) → unit classes earlier x ≡ j.Judged.Typed f → UnitSpells x text → JTyped f.file }
+{}
+
+/// Its names, numbers and operands are spelled alike in both languages (JLS 3.8, 3.10.1, 15.17, 15.18).
+pub fn is_named()
+    ensures { (classes earlier : List (List ℕ)) (x : JUnit) (f : TypedFile) (text : Tokens) → unit classes earlier x ≡ j.Judged.Typed f → UnitSpells x text → JNamed f.file }
+{}
+
+/// No name of its Kotlin is a hard keyword.
+pub fn has_no_keyword()
+    ensures { (classes earlier : List (List ℕ)) (x : JUnit) (f : TypedFile) (text : Tokens) → unit classes earlier x ≡ j.Judged.Typed f → UnitSpells x text → HasNoKeyword (file_of f.file) }
+{}

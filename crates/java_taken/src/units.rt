@@ -1,0 +1,402 @@
+//! Members, classes and units.
+
+ghost use Rattle.std.specs.Prelude.{◌≡◌, IfOk};
+ghost use Rattle.java_taken.specs.Units as s;
+ghost use Rattle.java_taken.specs.Judged.{Judges, continued};
+
+use crate::judged::{Judged, Refusal, TypedFile};
+use crate::names::Names;
+use crate::places::member_at;
+use crate::statements::statements;
+use crate::words::{JAVA_END, MAIN, SLASH, STRING, is_free};
+use j2k_base::{Name, NoMemory, Text};
+use java_members::{JImport, JMemberHead, JModifier, JPackage, JResult, JTypeHead, ModifierKind};
+use java_tree::{Comment, JDotted, JQualified, JType, JTypedParam, Position};
+use java_units::{JMember, JStatement, JUnit};
+use meanings::java::{JClass, JFile, JMain};
+use meanings::names::Names as Parts;
+use std::alloc::Global;
+
+fn are_main(mods: &[JModifier]) -> bool
+    ensures { result ≡ s.are_main (s.kinds mods.now) }
+{
+    match mods {
+        [first, second] => matches!(
+            (first.kind, second.kind),
+            (ModifierKind::Public, ModifierKind::Static)
+                | (ModifierKind::Static, ModifierKind::Public)
+        ),
+        _ => false,
+    }
+}
+
+fn are_public(mods: &[JModifier]) -> bool
+    ensures { result ≡ s.are_public (s.kinds mods.now) }
+{
+    match mods {
+        [first] => matches!(first.kind, ModifierKind::Public),
+        _ => false,
+    }
+}
+
+#[tactic(auto, unfolding(crate::specs::Units::is_string))]
+fn is_string(x: &JType) -> bool
+    ensures { result ≡ s.is_string x.now }
+{
+    match x {
+        JType::Class(name) => {
+            name.name.as_bytes() == STRING.as_bytes() && matches!(name.rest.as_slice(), [])
+        }
+        _ => false,
+    }
+}
+
+#[tactic(auto, unfolding(crate::specs::Units::is_strings))]
+fn is_strings(x: &JType) -> bool
+    ensures { result ≡ s.is_strings x.now }
+{
+    match x {
+        JType::Array(element, brackets) => {
+            is_string(element.get()) && matches!(brackets.as_slice(), [_])
+        }
+        _ => false,
+    }
+}
+
+fn is_parameter(x: &JTypedParam) -> bool
+    ensures { result ≡ s.is_parameter x.now.is_final x.now.kind }
+{
+    x.is_final.is_none() && is_strings(&x.kind)
+}
+
+/// The body of `main` behind its parameter.
+fn main_of(
+    alloc: Global,
+    classes: &Names,
+    x: &JTypedParam,
+    xs: &[JStatement],
+) -> Result<JMain, Refusal>
+    ensures { Judges (s.main_of classes.now x.now xs.now) result }
+{
+    if !is_free(x.name.as_bytes()) || classes.contains(x.name.as_str()) {
+        return Err(Refusal::Open(x.at));
+    }
+    let body = statements(alloc, classes, &x.name, xs)?;
+    let parameter = Name::from_str(alloc, x.name.as_str())?;
+    Ok(JMain { parameter, body })
+}
+
+fn with_parameters(
+    alloc: Global,
+    classes: &Names,
+    at: Position,
+    items: &[JTypedParam],
+    xs: &[JStatement],
+) -> Result<JMain, Refusal>
+    ensures { Judges (s.bodied classes.now at (s.only items.now) xs.now) result }
+{
+    match items {
+        [x] if is_parameter(x) => main_of(alloc, classes, x, xs),
+        _ => Err(Refusal::Open(at)),
+    }
+}
+
+fn bodied(
+    alloc: Global,
+    classes: &Names,
+    at: Position,
+    head: &JMemberHead,
+    xs: &[JStatement],
+) -> Result<JMain, Refusal>
+    ensures { Judges (s.bodied classes.now at (s.main_parameter head.now) xs.now) result }
+{
+    match head {
+        JMemberHead::Method(mods, None, JResult::Void(_), name, _, formals, None)
+            if are_main(mods.as_slice()) && name.as_bytes() == MAIN.as_bytes() => {
+            with_parameters(alloc, classes, at, formals.items.as_slice(), xs)
+        }
+        _ => Err(Refusal::Open(at)),
+    }
+}
+
+/// The `main` that a member is (JLS 12.1.4).
+#[tactic(auto, unfolding(crate::specs::Units::member))]
+fn member(alloc: Global, classes: &Names, x: &JMember) -> Result<JMain, Refusal>
+    ensures { Judges (s.member classes.now x.now) result }
+{
+    let at = member_at(x);
+    match x {
+        JMember::Bodied(head, _, xs, _) => bodied(alloc, classes, at, head, xs.as_slice()),
+        _ => Err(Refusal::Open(at)),
+    }
+}
+
+fn members(alloc: Global, classes: &Names, xs: &[JMember]) -> Result<Option<JMain>, Refusal>
+    ensures { Judges (s.members classes.now xs.now) result }
+{
+    match xs {
+        [] => Ok(None),
+        [x] => {
+            let main = member(alloc, classes, x)?;
+            Ok(Some(main))
+        }
+        [x, second, ..] => {
+            let _main = member(alloc, classes, x)?;
+            Err(Refusal::Open(member_at(second)))
+        }
+    }
+}
+
+fn is_file_of(alloc: Global, path: &Text, name: &Name) -> Result<bool, NoMemory>
+    ensures { IfOk result (λ is. is ≡ s.is_file_of path.now name.now) }
+{
+    let mut file = Text::from_str(alloc, name.as_str())?;
+    file.push_str(JAVA_END)?;
+    let mut end = Text::from_str(alloc, SLASH)?;
+    end.push_str(file.as_str())?;
+    Ok(path.as_bytes() == file.as_bytes() || path.as_bytes().ends_with(end.as_bytes()))
+}
+
+/// Whether the class of a file may have the name.
+fn may_name(alloc: Global, earlier: &Names, path: &Text, name: &Name) -> Result<bool, NoMemory>
+    ensures { IfOk result (λ may. may ≡ s.may_name earlier.now path.now name.now) }
+{
+    if !is_free(name.as_bytes()) || earlier.contains(name.as_str()) {
+        return Ok(false);
+    }
+    is_file_of(alloc, path, name)
+}
+
+fn class_of(
+    alloc: Global,
+    classes: &Names,
+    name: &Name,
+    at: Position,
+    xs: &[JMember],
+) -> Result<(JClass, Position), Refusal>
+    ensures { Judges (s.class_of classes.now name.now at xs.now) result }
+{
+    let main = members(alloc, classes, xs)?;
+    let name = Name::from_str(alloc, name.as_str())?;
+    Ok((JClass { name, main }, at))
+}
+
+fn named(
+    alloc: Global,
+    classes: &Names,
+    earlier: &Names,
+    path: &Text,
+    name: &Name,
+    at: Position,
+    xs: &[JMember],
+) -> Result<(JClass, Position), Refusal>
+    ensures { Judges (s.named classes.now earlier.now path.now name.now at xs.now) result }
+{
+    if !may_name(alloc, earlier, path, name)? {
+        return Err(Refusal::Open(at));
+    }
+    class_of(alloc, classes, name, at, xs)
+}
+
+fn headed(
+    alloc: Global,
+    classes: &Names,
+    earlier: &Names,
+    path: &Text,
+    first: Position,
+    head: &JTypeHead,
+    xs: &[JMember],
+) -> Result<(JClass, Position), Refusal>
+    ensures { Judges (s.headed classes.now earlier.now path.now first (s.class_named head.now) xs.now) result }
+{
+    match head {
+        JTypeHead::Class(mods, _, name, at, None, None, None) if are_public(mods.as_slice()) => {
+            named(alloc, classes, earlier, path, name, *at, xs)
+        }
+        _ => Err(Refusal::Open(first)),
+    }
+}
+
+/// The class that a type is, and where its name stands (JLS 8.1).
+#[tactic(auto, unfolding(crate::specs::Units::top))]
+fn top(
+    alloc: Global,
+    classes: &Names,
+    earlier: &Names,
+    path: &Text,
+    x: &JMember,
+) -> Result<(JClass, Position), Refusal>
+    ensures { Judges (s.top classes.now earlier.now path.now x.now) result }
+{
+    let at = member_at(x);
+    match x {
+        JMember::Type(head, _, _, _, xs, _) => {
+            headed(alloc, classes, earlier, path, at, head, xs.as_slice())
+        }
+        _ => Err(Refusal::Open(at)),
+    }
+}
+
+fn types(
+    alloc: Global,
+    classes: &Names,
+    earlier: &Names,
+    path: &Text,
+    xs: &[JMember],
+) -> Result<Option<(JClass, Position)>, Refusal>
+    ensures { Judges (s.types classes.now earlier.now path.now xs.now) result }
+{
+    match xs {
+        [] => Ok(None),
+        [x] => {
+            let class = top(alloc, classes, earlier, path, x)?;
+            Ok(Some(class))
+        }
+        [x, second, ..] => {
+            let _class = top(alloc, classes, earlier, path, x)?;
+            Err(Refusal::Open(member_at(second)))
+        }
+    }
+}
+
+fn part(alloc: Global, name: &Name, at: Position) -> Result<Name, Refusal>
+    ensures { Judges (s.part_of name.now at) result }
+{
+    if !is_free(name.as_bytes()) {
+        return Err(Refusal::Open(at));
+    }
+    let name = Name::from_str(alloc, name.as_str())?;
+    Ok(name)
+}
+
+/// The names behind those that are found.
+fn more_parts(alloc: Global, found: Parts, xs: &[JDotted]) -> Result<Parts, Refusal>
+    ensures { Judges (continued found (s.parts_of xs.now)) result }
+{
+    let mut found = found;
+    for x in xs {
+        let name = part(alloc, &x.name, x.at)?;
+        found.push(name)?;
+    }
+    Ok(found)
+}
+
+fn qualified(alloc: Global, x: &JQualified) -> Result<Parts, Refusal>
+    ensures { Judges (s.qualified_of x.now) result }
+{
+    let name = part(alloc, &x.name, x.at)?;
+    let mut found = Parts::new(alloc);
+    found.push(name)?;
+    more_parts(alloc, found, x.rest.as_slice())
+}
+
+/// The parts of the name of a package line (JLS 7.4.1).
+fn package(alloc: Global, x: &Option<JPackage>) -> Result<Parts, Refusal>
+    ensures { Judges (s.package_of x.now) result }
+{
+    match x {
+        None => Ok(Parts::new(alloc)),
+        Some(x) => qualified(alloc, &x.name),
+    }
+}
+
+fn imports(xs: &[JImport]) -> Result<(), Refusal>
+    ensures { Judges (s.imports_of xs.now) result }
+{
+    match xs {
+        [] => Ok(()),
+        [first, ..] => Err(Refusal::Open(first.at)),
+    }
+}
+
+fn file_of(parts: Parts, class: Option<(JClass, Position)>) -> TypedFile
+    ensures { result ≡ s.file_of parts class }
+{
+    match class {
+        None => TypedFile {
+            file: JFile {
+                package: parts,
+                class: None,
+            },
+            at: None,
+        },
+        Some((class, at)) => TypedFile {
+            file: JFile {
+                package: parts,
+                class: Some(class),
+            },
+            at: Some(at),
+        },
+    }
+}
+
+fn declared(
+    alloc: Global,
+    classes: &Names,
+    earlier: &Names,
+    x: &JUnit,
+) -> Result<TypedFile, Refusal>
+    ensures { Judges (s.declared classes.now earlier.now x.now) result }
+{
+    let package = package(alloc, &x.package)?;
+    imports(x.imports.as_slice())?;
+    let class = types(alloc, classes, earlier, &x.path, x.types.as_slice())?;
+    Ok(file_of(package, class))
+}
+
+/// What is judged of a unit without its comments.
+fn judge_declared(
+    alloc: Global,
+    classes: &Names,
+    earlier: &Names,
+    x: &JUnit,
+) -> Result<Judged, NoMemory>
+    ensures { IfOk result (λ j. s.seen j ≡ s.declared classes.now earlier.now x.now) }
+{
+    match declared(alloc, classes, earlier, x) {
+        Ok(file) => Ok(Judged::Typed(file)),
+        Err(Refusal::Open(at)) => Ok(Judged::Open(at)),
+        Err(Refusal::Memory) => Err(NoMemory),
+    }
+}
+
+fn before(at: Position, judged: Judged) -> Judged
+    ensures { s.seen result ≡ s.before at (s.seen judged) }
+{
+    match judged {
+        Judged::Open(other) => {
+            if at.offset < other.offset {
+                Judged::Open(at)
+            } else {
+                Judged::Open(other)
+            }
+        }
+        Judged::Typed(_) => Judged::Open(at),
+    }
+}
+
+fn commented(comments: &[Comment], judged: Judged) -> Judged
+    ensures { s.seen result ≡ s.commented comments.now (s.seen judged) }
+{
+    match comments {
+        [] => judged,
+        [first, ..] => before(first.position, judged),
+    }
+}
+
+/// Judges a unit of a project (JLS 7.3): its typed file where it is taken, or the position of its first open form.
+///
+/// These are the names of all classes of the project, and of those in earlier files. The only error is that memory runs
+/// out.
+#[tactic(auto, unfolding(crate::specs::Units::unit))]
+pub fn judge(
+    alloc: Global,
+    unit: &JUnit,
+    classes: &Names,
+    earlier: &Names,
+) -> Result<Judged, NoMemory>
+    ensures { IfOk result (λ j. s.seen j ≡ s.unit classes.now earlier.now unit.now) }
+{
+    let judged = judge_declared(alloc, classes, earlier, unit)?;
+    Ok(commented(unit.comments.as_slice(), judged))
+}
