@@ -1,5 +1,5 @@
 #!/usr/bin/env python3
-"""Times the converter and javac side by side on the same files, with their peak memory.
+"""Times the converter and javac side by side on the same projects, with their peak memory: measure.py [FILES BYTES ..].
 
 Run it at the top, where ./j2k has built the program. It wants the command /usr/bin/time; javac is left out where it is missing.
 """
@@ -12,19 +12,33 @@ import tempfile
 sys.path.insert(0, os.path.join(os.path.dirname(os.path.abspath(__file__)), ".."))
 from timing import run
 
-top = os.getcwd()
-generate = os.path.join(top, "bench/convert/generate.py")
-for count in [int(word) for word in sys.argv[1:]] or [4500, 18000]:
-    with tempfile.TemporaryDirectory() as folder:
-        subprocess.run([sys.executable, generate, os.path.join(folder, "src"), str(count)], check=True)
-        size = os.path.getsize(os.path.join(folder, "src/Main.java"))
-        rows = {"j2k": [], "javac": []}
-        for turn in range(5):
+SHAPES = ["2000", "2097", "2000", "8388", "16", "262144", "16", "1048576"]
+
+
+def java_files(folder):
+    return [os.path.join(place, name) for place, _, names in os.walk(folder) for name in names]
+
+
+def measure(top, folder, files, size):
+    source = os.path.join(folder, "src")
+    subprocess.run([sys.executable, os.path.join(top, "bench/convert/generate.py"), source, files, size], check=True)
+    found = java_files(source)
+    total = sum(map(os.path.getsize, found))
+    with open(os.path.join(folder, "list"), "w") as listed:
+        listed.write("\n".join(found))
+    commands = {"j2k": [os.path.join(top, "crates/j2k/out/j2k"), "convert", "src", "out"]}
+    if shutil.which("javac"):
+        commands["javac"] = ["javac", "-proc:none", "-nowarn", "-d", "classes", "@list"]
+    for name, words in commands.items():
+        runs = []
+        for turn in range(5 if name == "j2k" else 2):
             shutil.rmtree(os.path.join(folder, "out"), ignore_errors=True)
-            rows["j2k"].append(run([os.path.join(top, "crates/j2k/out/j2k"), "convert", "src", "out"], folder))
-            if shutil.which("javac"):
-                rows["javac"].append(run(["javac", "-proc:none", "-d", "classes", "src/Main.java"], folder))
-        for name, runs in rows.items():
-            if runs:
-                best = min(runs)
-                print(f"{count} locals, {size} bytes, {name}: {best[0]:.3f} s, {best[1]:.1f} MB, status {best[2]}")
+            runs.append(run(words, folder))
+        seconds, memory, status = min(runs)
+        print(f"{files} files, {total} bytes, {name}: {seconds:.3f} s, {memory:.1f} MB, {memory * 1048576 / total:.1f} a byte, status {status}")
+
+
+words = sys.argv[1:] or SHAPES
+for files, size in zip(words[::2], words[1::2]):
+    with tempfile.TemporaryDirectory() as folder:
+        measure(os.getcwd(), folder, files, size)
