@@ -1,6 +1,6 @@
 -- The paths of Kotlin files, and the names of classes.
 use Rattle.std.proofs.Common.{◌≡◌, inl, inr, ◌<◌, ◌≤◌, ◌-◌, ◌+◌, ℕ, Bool, true, false, cond, List, [], ◌∷◌, ◌++◌, length, map, filter, take, refl, sym, ◌∙◌, ap, subst, arith}
-use Rattle.std.specs.Prelude.{nat_eq, not}
+use Rattle.std.specs.Prelude.{not}
 use Rattle.std.specs.List.{All, slice_split, position_or_len, before_first, after_first}
 use Rattle.std.proofs.lemmas.Bool.{cases_lt}
 use Rattle.std.proofs.lemmas.List.Elements.{All-from_get_or}
@@ -72,9 +72,9 @@ one_part xs e = slice_split_none is_slash xs (none_pass is_slash xs e)
 
 some_part : (xs : List ℕ) → (part : List ℕ) × (parts : List (List ℕ)) × (slice_split is_slash xs ≡ part ∷ parts)
 some_part xs = elim (cases_lt (position_or_len is_slash xs) (length xs)) [
-    inl less ↦ (before_first is_slash xs, slice_split is_slash (after_first is_slash xs), slice_split_first is_slash xs 0 less)
+  | inl less ↦ (before_first is_slash xs, slice_split is_slash (after_first is_slash xs), slice_split_first is_slash xs 0 less)
   | inr ge ↦ (xs, [], one_part xs (let le : position_or_len is_slash xs ≤ length xs = prefix_len-le-length (λ x. not (is_slash x)) xs in omega (arith, ge, le)))
-  ]
+]
 
 -- a path without a slash is its last part
 pub last_whole : (path : List ℕ) → position_or_len is_slash path ≡ length path → path ≡ last_part path

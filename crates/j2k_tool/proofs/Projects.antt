@@ -1,5 +1,5 @@
 -- What the files of a project are, file after file, and what sources are.
-use Rattle.std.proofs.Common.{◌≡◌, ◌≢◌, ◌<◌, ◌≤◌, ◌+◌, inl, inr, ℕ, Bool, true, false, not, cond, List, [], ◌∷◌, ◌++◌, length, get_or, take, Option, Some, None, Result, Ok, Err, IfOk, refl, sym, ◌∙◌, ap, subst, arith}
+use Rattle.std.proofs.Common.{◌≡◌, ◌<◌, ◌≤◌, ◌+◌, inl, inr, ℕ, Bool, true, false, not, cond, List, [], ◌∷◌, ◌++◌, length, get_or, take, Option, Some, None, refl, sym, ◌∙◌, ap, subst, arith}
 use Rattle.std.specs.List.{list_any}
 use Rattle.std.specs.Str.{bytes_eq}
 use Rattle.std.proofs.lemmas.List.{take_more, take_all}
@@ -13,7 +13,6 @@ use Rattle.j2k_tool.specs.declared.files.TakenFile.{TakenFile}
 use Rattle.j2k_tool.specs.declared.files.Found.{Found}
 use Rattle.j2k_tool.specs.declared.files.Found.TheVariants as found
 use Rattle.j2k_tool.specs.declared.project.Firsts.{Firsts}
-use Rattle.j2k_tool.specs.Firsts.{NoneIn, FirstIn}
 use Rattle.j2k_tool.specs.Paths.{class_name, with_name, with_names, names_of}
 use Rattle.j2k_tool.specs.Projects.{AreTaken, IsFirst, AreFirsts, token_fault, spelling_fault, open_form, earliest, added, IsFirstOpen, entries_fault, least}
 use Rattle.j2k_tool.specs.Sources.{HasTokenFault, HasSpellingFault, HasOpenForm, IsTaken, IsFound}

@@ -4,7 +4,6 @@ use Rattle.j2k_base.specs.declared.places.Fault.{Fault}
 use Rattle.j2k_base.specs.declared.series.SourceFile.{SourceFile}
 use Rattle.java_tree.specs.declared.tokens.Comment.{Comment}
 use Rattle.java_tree.specs.declared.tokens.JToken.{JToken}
-use Rattle.java_tree.specs.declared.tokens.Position.{Position}
 use Rattle.java_tree.specs.declared.tokens.Tokens.{Tokens}
 use Rattle.java_lexer.specs.declared.found.LexFault.{LexFault}
 use Rattle.java_lexer.specs.Cutting.{Lexes, Faults}
@@ -58,7 +57,7 @@ spelling_fault_once earlier file f g p q =
     let same = same_tokens file q.tokens p.tokens q.has p.has in
     p.is
     ∙ same_told p.tokens p.found q.found p.number q.number p.token q.token p.faulty
-      (subst (λ (t : Tokens). IsFaulty t.list q.found q.number) same q.faulty) p.stands (ap (λ (t : Tokens). slice_get t.list q.number) (sym same) ∙ q.stands)
+    (subst (λ (t : Tokens). IsFaulty t.list q.found q.number) same q.faulty) p.stands (ap (λ (t : Tokens). slice_get t.list q.number) (sym same) ∙ q.stands)
     ∙ ap (λ (t : Tokens). fault_in t.path q.found q.token.position) (sym same)
     ∙ sym q.is
 

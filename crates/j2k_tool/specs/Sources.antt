@@ -12,7 +12,6 @@ use Rattle.java_units.specs.declared.units.JUnit.{JUnit}
 use Rattle.java_parser.specs.declared.faults.SyntaxFault.{SyntaxFault}
 use Rattle.java_parser.specs.Spelling as spelling
 use Rattle.java_parser.specs.Spelling.{JSpells, IsFaulty}
-use Rattle.java_taken.specs.declared.judged.TypedFile.{TypedFile}
 use Rattle.java_taken.specs.Judged.{Judged}
 use Rattle.java_taken.specs.Units.{unit}
 use Rattle.j2k_tool.specs.declared.files.TakenFile.{TakenFile}

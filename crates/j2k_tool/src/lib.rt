@@ -18,6 +18,5 @@ mod writing;
 pub use command::run;
 pub use status::Status;
 
-
 #[cfg(test)]
 mod tests;

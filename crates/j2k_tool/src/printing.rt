@@ -83,11 +83,18 @@ fn push_main(alloc: Global, out: &mut Text, main: &Option<KMain>) -> Result<(), 
 fn push_some_main(alloc: Global, out: &mut Text, main: &KMain) -> Result<(), NoMemory>
     ensures { OnOk result (out.new ≡ out.old ++ main_text (Some main.now)) }
 {
-    out.push_str(KOTLIN_MAIN)?;
-    out.push_str(main.parameter.as_str())?;
-    out.push_str(KOTLIN_MAIN_OPEN)?;
+    push_head(out, &main.parameter)?;
     push_statements(alloc, out, main.body.as_slice())?;
     out.push_str(KOTLIN_MAIN_END)
+}
+
+/// What stands before the statements of `main`.
+fn push_head(out: &mut Text, parameter: &Name) -> Result<(), NoMemory>
+    ensures { OnOk result (out.new ≡ out.old ++ KOTLIN_MAIN.now ++ parameter.now ++ KOTLIN_MAIN_OPEN.now) }
+{
+    out.push_str(KOTLIN_MAIN)?;
+    out.push_str(parameter.as_str())?;
+    out.push_str(KOTLIN_MAIN_OPEN)
 }
 
 fn push_statements(alloc: Global, out: &mut Text, statements: &[KStmt]) -> Result<(), NoMemory>

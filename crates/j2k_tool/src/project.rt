@@ -132,11 +132,7 @@ fn keep_first(first: &mut Option<Fault>, fault: Fault)
 
 /// Looks at each file of a project, whose classes have these names, behind the files before it. No tree but the typed
 /// ones is kept.
-fn firsts_of(
-    alloc: Global,
-    classes: &Names,
-    files: &[SourceFile],
-) -> Result<Firsts, NoMemory>
+fn firsts_of(alloc: Global, classes: &Names, files: &[SourceFile]) -> Result<Firsts, NoMemory>
     requires { AreSmall files.now }
     ensures { IfOk result (AreFirsts classes.now files.now) }
 {

@@ -4,8 +4,8 @@ ghost use Rattle.std.specs.List.{count_by, flat_map};
 ghost use Rattle.j2k_tool.specs.Report.{kind_text as kind_text_by, choice_line, companion, has_class as has_class_by, ReportText, Choices as choices_by};
 
 use crate::faults::{BLANK, push_number, push_place};
-use crate::texts::LINE_END;
 use crate::files::TakenFile;
+use crate::texts::LINE_END;
 use j2k_base::{Choice, ChoiceKind, Choices, Name, NoMemory, Place, Text};
 use java_tree::Position;
 use std::alloc::Global;
@@ -74,11 +74,7 @@ pub fn choices_of(alloc: Global, taken: &[TakenFile]) -> Result<Choices, NoMemor
 }
 
 /// A class with a static `main` has a companion.
-fn push_choices_of(
-    alloc: Global,
-    choices: &mut Choices,
-    taken: &TakenFile,
-) -> Result<(), NoMemory>
+fn push_choices_of(alloc: Global, choices: &mut Choices, taken: &TakenFile) -> Result<(), NoMemory>
     ensures { OnOk result (choices.new ≡ choices.old ++ choices_by taken.now) }
 {
     let Some(at) = taken.typed.at else {
@@ -93,12 +89,7 @@ fn push_choices_of(
     choices.push(companion_of(alloc, &taken.path, at, &class.name)?)
 }
 
-fn companion_of(
-    alloc: Global,
-    path: &Text,
-    at: Position,
-    name: &Name,
-) -> Result<Choice, NoMemory>
+fn companion_of(alloc: Global, path: &Text, at: Position, name: &Name) -> Result<Choice, NoMemory>
     ensures { IfOk result (λ choice. choice ≡ companion path.now at name.now) }
 {
     let path = Text::from_str(alloc, path.as_str())?;
@@ -119,7 +110,13 @@ fn companion_of(
 pub fn classes_in(taken: &[TakenFile]) -> usize
     ensures { result ≡ count_by has_class_by taken.now }
 {
-    taken.iter().filter(|file| has_class(file)).count()
+    let mut count = 0;
+    for file in taken {
+        if has_class(file) {
+            count += 1;
+        }
+    }
+    count
 }
 
 #[tactic(auto, unfolding(crate::specs::Report::has_class))]

@@ -268,7 +268,12 @@ fn packages(rt: HostRuntime) -> Result<(), Failure> {
     let alloc = rt.alloc();
     let words = words_of(alloc, "convert", "src", "out")?;
     let mut files = file_of(alloc, "src/a/b/Main.java", PACKED)?;
-    add(alloc, &mut files, "src/a/C.java", b"package a; public class C { }")?;
+    add(
+        alloc,
+        &mut files,
+        "src/a/C.java",
+        b"package a; public class C { }",
+    )?;
     let mut disk = SteadyDisk::new(files);
     let line = "converted: files 2, classes 2, choices 1\n";
     assert!(rt; ends(alloc, &words, &mut disk, Status::Done, line));
@@ -284,12 +289,63 @@ fn packages(rt: HostRuntime) -> Result<(), Failure> {
 }
 
 // Two files, their bytes, and the line that is printed.
-const FAULTS: [(&str, &[u8], &str, &[u8], &str); 6] = [
-    ("src/A.java", b"public class A { /* x */ }", "x", b"", "A.java:1:18: N0 not built yet\n"),
-    ("src/A.java", b"}", "src/B.java", b"#", "B.java:1:1: L3 illegal character\n"),
-    ("src/A.java", b"import a.B;", "src/B.java", b" }", "B.java:1:2: S1 unmatched bracket\n"),
-    ("src/A.java", b"}", "src/B.java", b"{", "A.java:1:1: S1 unmatched bracket\n"),
-    ("src/A.java", b"import a.B;", "src/B.java", b"import a.B;", "A.java:1:1: N0 not built yet\n"),
+const FAULTS: [(&str, &[u8], &str, &[u8], &str); 9] = [
+    (
+        "src/A.java",
+        b"class A { static int x = 2147483648; }",
+        "x",
+        b"",
+        "A.java:1:26: L5 integer literal too large\n",
+    ),
+    (
+        "src/A.java",
+        b"class A { int y = 1 - 2147483648; }",
+        "x",
+        b"",
+        "A.java:1:11: S2 no such form\n",
+    ),
+    (
+        "src/A.java",
+        b"class A { static int x = 1; }",
+        "x",
+        b"",
+        "A.java:1:1: N0 not built yet\n",
+    ),
+    (
+        "src/A.java",
+        b"public class A { /* x */ }",
+        "x",
+        b"",
+        "A.java:1:18: N0 not built yet\n",
+    ),
+    (
+        "src/A.java",
+        b"}",
+        "src/B.java",
+        b"#",
+        "B.java:1:1: L3 illegal character\n",
+    ),
+    (
+        "src/A.java",
+        b"import a.B;",
+        "src/B.java",
+        b" }",
+        "B.java:1:2: S1 unmatched bracket\n",
+    ),
+    (
+        "src/A.java",
+        b"}",
+        "src/B.java",
+        b"{",
+        "A.java:1:1: S1 unmatched bracket\n",
+    ),
+    (
+        "src/A.java",
+        b"import a.B;",
+        "src/B.java",
+        b"import a.B;",
+        "A.java:1:1: N0 not built yet\n",
+    ),
     (
         "src/a/A.java",
         b"package a; public class A { }",
@@ -332,7 +388,7 @@ fn nested(alloc: Global, depth: u32) -> Result<String, NoMemory> {
 #[test]
 fn parentheses(rt: HostRuntime) -> Result<(), Failure> {
     let alloc = rt.alloc();
-    let files = file_of(alloc, "src/A.java", nested(alloc, 197)?.as_str())?;
+    let files = file_of(alloc, "src/A.java", nested(alloc, 196)?.as_str())?;
     let line = "converted: files 1, classes 1, choices 1\n";
     let done = answers(alloc, files, Status::Done, line)?;
     assert!(rt; done);
@@ -405,16 +461,24 @@ fn long_files(rt: HostRuntime) -> Result<(), Failure> {
     Ok(())
 }
 
-#[test]
-fn many_files(rt: HostRuntime) -> Result<(), Failure> {
-    let alloc = rt.alloc();
+// So many files without a token.
+fn empty_files(alloc: Global, count: u32) -> Result<FileMap, NoMemory> {
     let mut files = FileMap::new(alloc);
-    for number in 0..2_001u32 {
+    for number in 0..count {
         let path = format!(in alloc; "src/{number}.java")?;
         add(alloc, &mut files, path.as_str(), b"")?;
     }
+    Ok(files)
+}
+
+#[test]
+fn many_files(rt: HostRuntime) -> Result<(), Failure> {
+    let alloc = rt.alloc();
+    let line = "converted: files 2000, classes 0, choices 0\n";
+    let done = answers(alloc, empty_files(alloc, 2_000)?, Status::Done, line)?;
+    assert!(rt; done);
     let line = "j2k: too large: files 2000\n";
-    let large = answers(alloc, files, Status::TooLarge, line)?;
+    let large = answers(alloc, empty_files(alloc, 2_001)?, Status::TooLarge, line)?;
     assert!(rt; large);
     Ok(())
 }

@@ -1,4 +1,4 @@
-use Rattle.std.proofs.Common.{List, ◌-◌, false, cond, length, take, sym, ap}
+use Rattle.std.proofs.Common.{◌-◌, false, cond, length, take, ap}
 use Rattle.std.proofs.lemmas.Str.Pattern.{ends_text}
 use Rattle.j2k_sources.specs.declared.loading.TheConstants.{JAVA_END}
 use Rattle.j2k_tool.proofs.paths.base_of.Goals as goal

@@ -1,4 +1,4 @@
-use Rattle.std.proofs.Common.{◌≡◌, rules, arith, sym, ◌∙◌}
+use Rattle.std.proofs.Common.{rules, arith, ◌∙◌}
 use Rattle.std.proofs.lemmas.Str.Pattern.{split_once_first}
 use Rattle.j2k_tool.proofs.Names.{last_whole, last_later}
 use Rattle.j2k_tool.proofs.paths.last_part.Goals as goal

@@ -1,4 +1,4 @@
-use Rattle.std.proofs.Common.{◌<◌, ◌≤◌, length, arith}
+use Rattle.std.proofs.Common.{◌<◌, length, arith}
 use Rattle.j2k_tool.proofs.Projects.{names_step, firsts_step, small_here}
 use Rattle.j2k_tool.proofs.project.firsts_of.Goals as goal
 

@@ -1,5 +1,5 @@
-use Rattle.std.proofs.Common.{◌<◌, ◌≤◌, length, arith}
-use Rattle.j2k_tool.proofs.Projects.{names_step, all_names}
+use Rattle.std.proofs.Common.{◌<◌, length, arith}
+use Rattle.j2k_tool.proofs.Projects.{names_step}
 use Rattle.j2k_tool.proofs.project.names_of.Goals as goal
 
 pub loop-file-preserved : goal.loop-file-preserved
