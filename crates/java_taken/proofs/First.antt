@@ -1,5 +1,5 @@
 -- The first token of a form, by its cases.
-use Rattle.std.proofs.Common.{◌≡◌, ◌≤◌, List, [], ◌∷◌, ◌++◌, length, refl, ap, sym, ◌∙◌, subst, arith}
+use Rattle.std.proofs.Common.{◌≡◌, ◌≤◌, [], ◌∷◌, ◌++◌, length, refl, ap, ◌∙◌, subst, arith}
 use Rattle.java_tree.specs.declared.tokens.Position.{Position}
 use Rattle.java_tree.specs.declared.exprs.JParams.{JParams}
 use Rattle.java_tree.specs.declared.exprs.JParams.TheVariants as params
@@ -8,9 +8,9 @@ use Rattle.java_tree.specs.declared.types.JType.TheOpen.{JType-F}
 use Rattle.java_tree.specs.declared.exprs.JExpr.{JExpr, roll-JExpr, out-JExpr, map-JExpr, fold-roll-JExpr, ind-JExpr}
 use Rattle.java_tree.specs.declared.exprs.JExpr.TheOpen.{JExpr-F}
 use Rattle.java_tree.specs.Seen.{Token, Tokens}
-use Rattle.java_tree.specs.Trees.{tokens, tokens_by, type_tokens, type_tokens_by, params_tokens, operator_tokens}
+use Rattle.java_tree.specs.Trees.{tokens, tokens_by, type_tokens, type_tokens_by, params_tokens}
 use Rattle.java_spelling.proofs.First.{tokens_out, type_tokens_out}
-use Rattle.java_taken.specs.Places.{token_at, first_or, first_of, nowhere, first_at, type_at, params_at}
+use Rattle.java_taken.specs.Places.{first_or, first_of, nowhere, first_at, type_at, params_at}
 
 pub joined_first : (a b : Tokens) (p : Position) → first_or (a ++ b) p ≡ first_or a (first_or b p)
 joined_first [] b p = refl

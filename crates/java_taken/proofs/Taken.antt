@@ -1,5 +1,5 @@
 -- A unit that is taken is well typed, and its names are those of both languages.
-use Rattle.std.proofs.Common.{◌≡◌, ◌≤◌, ℕ, zero, suc, Bool, true, false, cond, ◌&&◌, ◌||◌, not, List, [], ◌∷◌, ◌++◌, map, length, Option, Some, None, refl, sym, ◌∙◌, ap, subst, arith}
+use Rattle.std.proofs.Common.{◌≡◌, ℕ, zero, suc, Bool, true, false, cond, ◌&&◌, ◌||◌, not, List, [], ◌∷◌, ◌++◌, map, length, Option, Some, None, refl, sym, ◌∙◌, ap, subst, arith}
 use Rattle.std.specs.Prelude.{◌==◌, is_some, nat_lt, option_map}
 use Rattle.std.specs.List.{list_any, AllByRecursion}
 use Rattle.std.specs.Str.{bytes_eq}
@@ -9,7 +9,6 @@ use Rattle.std.proofs.lemmas.Slice.Eq.{bytes_eq-Decides}
 use Rattle.java_tree.specs.declared.tokens.Comment.{Comment}
 use Rattle.java_tree.specs.declared.tokens.Position.{Position}
 use Rattle.java_tree.specs.declared.types.JDotted.{JDotted}
-use Rattle.java_tree.specs.declared.types.JQualified.{JQualified}
 use Rattle.java_tree.specs.declared.exprs.JTypedParam.{JTypedParam}
 use Rattle.java_tree.specs.declared.exprs.JExpr.{JExpr, out-JExpr}
 use Rattle.java_tree.specs.declared.exprs.JExpr.TheOpen.{JExpr-F}
@@ -22,7 +21,6 @@ use Rattle.java_heads.specs.declared.statements.JSimple.TheVariants as simple
 use Rattle.java_heads.specs.Heads.{value_stands, DeclaratorStands, SimpleStands}
 use Rattle.java_members.specs.declared.heads.JMemberHead.{JMemberHead}
 use Rattle.java_members.specs.declared.heads.JMemberHead.TheVariants as head
-use Rattle.java_members.specs.declared.lines.JImport.{JImport}
 use Rattle.java_members.specs.declared.lines.JPackage.{JPackage}
 use Rattle.java_units.specs.declared.statements.JBody.{JBody}
 use Rattle.java_units.specs.declared.statements.JCase.{JCase}
@@ -58,7 +56,7 @@ use Rattle.java_taken.specs.Places.{statement_at, member_at}
 use Rattle.java_taken.specs.Expressions.{expression}
 use Rattle.java_taken.specs.Statements.{may_declare, is_out, is_int, printed, called, valued, declared, simple_of, statement_of, names_after, statement, statements}
 use Rattle.java_taken.specs.Units as u
-use Rattle.java_taken.proofs.Typing.{typed_is, bind_typed, if_typed, both, identifier, SameLocals, ArePlain, Good, typed_expression}
+use Rattle.java_taken.proofs.Typing.{typed_is, bind_typed, if_typed, both, identifier, SameLocals, ArePlain, typed_expression}
 
 -- ---- names
 

@@ -1,5 +1,5 @@
 -- The first token of each form of an expression, and what the form is judged to be.
-use Rattle.std.proofs.Common.{◌≡◌, ℕ, Bool, List, Option, refl, ap, sym, ◌∙◌}
+use Rattle.std.proofs.Common.{◌≡◌, ℕ, Bool, List, Option, ap, sym, ◌∙◌}
 use Rattle.java_tree.specs.declared.tokens.Position.{Position}
 use Rattle.java_tree.specs.declared.exprs.JLiteral.{JLiteral}
 use Rattle.java_tree.specs.declared.exprs.PostfixOp.{PostfixOp}
@@ -19,7 +19,6 @@ use Rattle.java_tree.specs.declared.types.JQualified.{JQualified}
 use Rattle.java_tree.specs.declared.exprs.JExpr.{JExpr, roll-JExpr, out-JExpr, map-JExpr, out-roll-JExpr}
 use Rattle.java_tree.specs.declared.exprs.JExpr.TheVariants as e
 use Rattle.java_tree.specs.declared.exprs.JExpr.TheOpen.{JExpr-F}
-use Rattle.meanings.specs.declared.java.JExpr.{JExpr as TExpr}
 use Rattle.java_taken.specs.Judged.{Judged, ◌>>=◌}
 use Rattle.java_taken.specs.Places.{first_at, type_at, params_at}
 use Rattle.java_taken.specs.Expressions.{operator_of, local_of, number_of, paren_of, operands, form_of, expression}

@@ -1,5 +1,5 @@
 -- Where a form stands: at its first token.
-use Rattle.std.specs.Prelude.{List, [], ◌∷◌}
+use Rattle.std.specs.Prelude.{[], ◌∷◌}
 use Rattle.java_tree.specs.declared.tokens.Position.{Position}
 use Rattle.java_tree.specs.declared.types.JType.{JType}
 use Rattle.java_tree.specs.declared.exprs.JExpr.{JExpr}

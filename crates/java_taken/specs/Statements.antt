@@ -1,5 +1,5 @@
 -- What a statement of `main` is judged to be after the declarations of locals.
-use Rattle.std.specs.Prelude.{ℕ, Bool, true, false, ◌&&◌, not, if◌then◌else◌, List, [], ◌∷◌, ◌++◌, Option, Some, None, codes}
+use Rattle.std.specs.Prelude.{ℕ, Bool, true, false, ◌&&◌, not, if◌then◌else◌, List, [], ◌∷◌, ◌++◌, Option, Some, None}
 use Rattle.std.specs.Str.{bytes_eq}
 use Rattle.java_tree.specs.declared.tokens.Position.{Position}
 use Rattle.java_tree.specs.declared.types.Primitive.TheVariants as primitive
@@ -9,7 +9,6 @@ use Rattle.java_tree.specs.declared.exprs.JExpr.{JExpr, out-JExpr}
 use Rattle.java_tree.specs.declared.exprs.JExpr.TheOpen.{JExpr-F}
 use Rattle.java_heads.specs.declared.declarations.JValue.{JValue}
 use Rattle.java_heads.specs.declared.declarations.JDeclarator.{JDeclarator}
-use Rattle.java_heads.specs.declared.declarations.JDeclaration.{JDeclaration}
 use Rattle.java_heads.specs.declared.statements.JSimple.{JSimple}
 use Rattle.java_heads.specs.declared.statements.JSimple.TheVariants as simple
 use Rattle.java_units.specs.declared.statements.JBody.{JBody}

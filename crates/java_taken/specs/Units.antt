@@ -1,5 +1,5 @@
 -- What a unit is judged to be.
-use Rattle.std.specs.Prelude.{ℕ, Bool, true, false, ◌&&◌, ◌||◌, not, if◌then◌else◌, nat_lt, nat_eq, List, [], ◌∷◌, ◌++◌, map, Option, Some, None, codes}
+use Rattle.std.specs.Prelude.{ℕ, Bool, true, false, ◌&&◌, ◌||◌, not, if◌then◌else◌, nat_lt, nat_eq, List, [], ◌∷◌, ◌++◌, map, Option, Some, None}
 use Rattle.std.specs.Str.{bytes_eq}
 use Rattle.std.specs.List.{ends_with}
 use Rattle.java_tree.specs.declared.tokens.Comment.{Comment}
@@ -30,7 +30,6 @@ use Rattle.java_units.specs.declared.statements.JBody.TheOpen.{JMember-F}
 use Rattle.java_units.specs.declared.units.JUnit.{JUnit}
 use Rattle.meanings.specs.declared.java.JMain.{JMain}
 use Rattle.meanings.specs.declared.java.JClass.{JClass}
-use Rattle.meanings.specs.declared.java.JFile.{JFile}
 use Rattle.java_taken.specs.declared.judged.Judged.{Judged as Answer}
 use Rattle.java_taken.specs.declared.judged.Judged.TheVariants as answer
 use Rattle.java_taken.specs.declared.judged.TypedFile.{TypedFile}

@@ -8,9 +8,8 @@ use Rattle.meanings.specs.declared.operators.Operator.TheVariants.{Plus, Minus, 
 use Rattle.meanings.specs.declared.kotlin.KExpr.{KExpr, out-KExpr}
 use Rattle.meanings.specs.declared.kotlin.KExpr.TheOpen.{KExpr-F}
 use Rattle.meanings.specs.Levels.{level}
-use Rattle.meanings.specs.Values.{Name}
 use Rattle.meanings.specs.KText.{operator_text, expression_text}
-use Rattle.meanings.specs.KSpells.{IsIdentifier, level_by, level_of, stands_by, IsExpression}
+use Rattle.meanings.specs.KSpells.{level_by, level_of, stands_by, IsExpression}
 use Rattle.meanings.proofs.Layers.{k_local, k_number, k_paren, k_binary, kotlin_induct, text_at, level_at, here, in_paren, in_binary}
 use Rattle.meanings.proofs.Words.{Stops, cut, differ, Word, AName, ANumber, IsOperand, word_text, word_tree, operand_is_word, operand_same, no_paren}
 

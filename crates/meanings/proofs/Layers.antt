@@ -1,9 +1,9 @@
 -- Expressions form by form: what each function of them gives at a form, and induction over them.
 use Rattle.std.proofs.Common.{◌≡◌, ℕ, List, Option, refl, sym, ap, ◌∙◌, subst}
 use Rattle.meanings.specs.declared.operators.Operator.{Operator}
-use Rattle.meanings.specs.declared.java.JExpr.{JExpr, roll-JExpr, out-JExpr, out-roll-JExpr, map-JExpr, fold-roll-JExpr, ind-JExpr, every-JExpr, every_here-JExpr, every_held-JExpr}
+use Rattle.meanings.specs.declared.java.JExpr.{JExpr, roll-JExpr, out-roll-JExpr, map-JExpr, fold-roll-JExpr, ind-JExpr, every-JExpr, every_here-JExpr, every_held-JExpr}
 use Rattle.meanings.specs.declared.java.JExpr.TheOpen.{JExpr-F}
-use Rattle.meanings.specs.declared.kotlin.KExpr.{KExpr, roll-KExpr, out-KExpr, out-roll-KExpr, map-KExpr, fold-roll-KExpr, ind-KExpr, para-roll-KExpr, every-KExpr, every_here-KExpr, every_held-KExpr, every_made-KExpr}
+use Rattle.meanings.specs.declared.kotlin.KExpr.{KExpr, roll-KExpr, out-roll-KExpr, map-KExpr, fold-roll-KExpr, ind-KExpr, para-roll-KExpr, every-KExpr, every_here-KExpr, every_held-KExpr, every_made-KExpr}
 use Rattle.meanings.specs.declared.kotlin.KExpr.TheOpen.{KExpr-F}
 use Rattle.meanings.specs.declared.kotlin.KExpr.TheVariants as ke
 use Rattle.meanings.specs.Values.{Name, Value}

@@ -3,7 +3,6 @@ use Rattle.std.proofs.Common.{◌≡◌, Bool, true, false, List, [], ◌∷◌,
 use Rattle.std.specs.Prelude.{option_map}
 use Rattle.meanings.specs.declared.java.JExpr.{JExpr, roll-JExpr}
 use Rattle.meanings.specs.declared.java.JExpr.TheOpen.{JExpr-F}
-use Rattle.meanings.specs.declared.kotlin.KExpr.{roll-KExpr}
 use Rattle.meanings.specs.declared.kotlin.KExpr.TheOpen.{KExpr-F}
 use Rattle.meanings.specs.declared.java.JStmt.{JStmt}
 use Rattle.meanings.specs.declared.java.JStmt.TheVariants.{Local, Print}
@@ -16,7 +15,7 @@ use Rattle.meanings.specs.JTyped.{known_by, Knows, AreTyped, MainIsTyped, ClassI
 use Rattle.meanings.specs.JNamed.{named_by, level_by as java_level_by, level_of as java_level_of, IsNamed, AreNamed, MainIsNamed, ClassIsNamed}
 use Rattle.meanings.specs.KSpells.{stands_by, level_by, level_of, IsExpression, AreStatements, IsMain, IsClass}
 use Rattle.meanings.specs.Laws.{TypesAreKept, SpellingIsKept}
-use Rattle.meanings.proofs.Layers.{j_paren, j_binary, java_induct, java_here, java_in_paren, java_in_binary, java_level_at, layer_of, convert_at, type_at, level_at, every_local, every_number, every_paren, every_binary}
+use Rattle.meanings.proofs.Layers.{java_induct, java_here, java_in_paren, java_in_binary, java_level_at, layer_of, convert_at, type_at, level_at, every_local, every_number, every_paren, every_binary}
 
 -- the declared types are `Int` at the locals, and nothing is declared but they and the parameter
 record Fits (parameter : Name) (locals : List Name) (static : Static) : Type 0 where

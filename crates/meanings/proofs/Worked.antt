@@ -20,7 +20,7 @@ use Rattle.meanings.specs.KText.{operator_text, expression_text, KText}
 use Rattle.meanings.specs.Values.{Name, Kind, Value, Null, Integer, Int, Print, End, Result, Done}
 use Rattle.meanings.specs.Outcome.{Meaning, pure, ◌>>=◌, ◌>>◌, local, assign}
 use Rattle.meanings.specs.Machine.{Place, print_line, arithmetic, binary, sequence}
-use Rattle.meanings.specs.Program.{Program, Body, main_site}
+use Rattle.meanings.specs.Program.{Body, main_site}
 use Rattle.meanings.specs.Static.{Static, IntType, declared, type_of, main_static}
 use Rattle.meanings.specs.Java.{java_expr, java_stmts, java_main, classes_in, java_program}
 use Rattle.meanings.specs.Kotlin.{used, kotlin_expr, kotlin_stmts}

@@ -1,6 +1,4 @@
-use Rattle.std.proofs.Common.{◌≡◌, ◌<◌, ◌+◌, ◌++◌, ◌∷◌, [], List, ℕ, length, drop, sym, ap, subst, arith}
-use Rattle.meanings.specs.declared.java.JStmt.{JStmt}
-use Rattle.java_taken.specs.Judged.{continued}
+use Rattle.std.proofs.Common.{◌<◌, [], length, arith}
 use Rattle.java_taken.specs.Statements as s
 use Rattle.java_taken.proofs.Loops.{typed_next}
 use Rattle.java_taken.proofs.statements.statements.Goals as goal
