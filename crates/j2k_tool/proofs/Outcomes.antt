@@ -1,7 +1,8 @@
 -- How an outcome of the steps is an outcome of what was asked for.
 use Rattle.std.proofs.Common.{◌≡◌, ◌⊎◌, inl, inr, ◌≤◌, ◌<◌, ℕ, List, [], ◌∷◌, ◌++◌, length, Option, Some, None, Result, Ok, Err, IfOk, IfSome, refl, sym, ◌∙◌, ap, subst, arith}
 use Rattle.std.specs.Prelude.{OnOk, OnErr, map}
-use Rattle.std.proofs.lemmas.List.{take_all}
+use Rattle.std.specs.List.{count_by, flat_map}
+use Rattle.std.proofs.lemmas.List.{take_all, length-map}
 use Rattle.j2k_base.specs.declared.places.Fault.{Fault}
 use Rattle.j2k_base.specs.declared.series.SourceFile.{SourceFile}
 use Rattle.j2k_io.specs.Disks.{Files, listing, with_file, with_files, IsCut}
@@ -13,14 +14,18 @@ use Rattle.j2k_sources.specs.declared.loading.Loaded.{Loaded}
 use Rattle.j2k_sources.specs.declared.loading.Loaded.TheVariants as loaded
 use Rattle.j2k_sources.specs.Sources.{IsLoaded, Exceeds, Differ}
 use Rattle.j2k_tool.specs.declared.files.TakenFile.{TakenFile}
-use Rattle.j2k_tool.specs.Asks.{Answer, usage, not_empty, refused, converted, converted_text, too_large, too_large_text, ConvertsSources, ConvertsLoaded, KotlinDiffer, PathsDiffer, IsAnswer, AsksOver, AsksOf, Asks, Answered, Stopped}
+use Rattle.j2k_tool.specs.declared.project.Project.TheVariants.{Taken}
+use Rattle.j2k_tool.specs.declared.writing.Conversion.{Conversion}
+use Rattle.j2k_tool.specs.Asks.{Answer, done_text, conversion_text, usage, not_empty, refused, converted, converted_text, too_large, too_large_text, ConvertsSources, ConvertsLoaded, KotlinDiffer, PathsDiffer, IsAnswer, AsksOver, AsksOf, Asks, Answered, Stopped}
 use Rattle.j2k_tool.specs.Faults.{fault_line}
 use Rattle.j2k_tool.specs.Messages.{message_text}
 use Rattle.j2k_tool.specs.Paths.{class_name, kotlin_path, with_name, names_of}
-use Rattle.j2k_tool.specs.Projects.{paths_of, AreTaken, IsFirstFault, Takes}
+use Rattle.j2k_tool.specs.Projects.{paths_of, AreTaken, IsFirstFault, Takes, IsJudged}
+use Rattle.j2k_tool.specs.Report.{Choices, has_class}
 use Rattle.j2k_tool.specs.Words.{words_mean}
-use Rattle.j2k_tool.specs.Written.{files_of}
+use Rattle.j2k_tool.specs.Written.{files_of, kotlin_file, conversion_of, placed_files, AreFree}
 use Rattle.j2k_tool.proofs.Names.{kotlin_differ}
+use Rattle.j2k_tool.proofs.Writes.{files_free, made_are}
 use Rattle.j2k_tool.specs.declared.status.Status.{Status}
 use Rattle.j2k_tool.specs.declared.status.Status.TheVariants.{Done, Refused, Usage, NotEmpty, TooLarge, WriteFault, NoMemory}
 use Rattle.j2k_tool.specs.declared.answers.Answer as code
@@ -89,21 +94,31 @@ loaded_differ (Some files) mid src dst there what same listed h is =
 
 -- ---- sources
 
-module _ (dst : List ℕ) (sources : Sources) (taken : List TakenFile) (takes : Takes sources taken) where
-  pub converted_answered : (old new : Option Files) (result : Result code.Answer Halt) → IfOk result (λ a. (a.status ≡ Done) × (message_text a.message ≡ converted_text taken))
-      → OnOk result (new ≡ with_files old (files_of dst taken)) → IfOk result (λ a. Answered (ConvertsSources dst sources) a.status (message_text a.message) old new)
+-- a conversion prints what is asked for
+text_is : (taken : List TakenFile) → conversion_text (conversion_of taken) ≡ converted_text taken
+text_is taken = ap (λ (n : ℕ). done_text n (count_by has_class taken) (length (flat_map Choices taken))) (length-map taken kotlin_file)
+
+module _ (dst : List ℕ) (sources : Sources) (conversion : Conversion) (judged : IsJudged sources (Taken conversion)) where
+  pub conversion_free : (held : Option Files) → IfSome held (λ files. (listing dst files ≡ []) × KotlinDiffer sources.files) → IfSome held (λ files. AreFree files (placed_files dst conversion))
+  conversion_free held h = files_free held dst judged.0 conversion judged.2 (taken_differ held dst sources judged.0 h judged.1)
+
+  files_are : placed_files dst conversion ≡ files_of dst judged.0
+  files_are = ap (placed_files dst) judged.2 ∙ made_are dst judged.0
+
+  pub converted_answered : (old new : Option Files) (result : Result code.Answer Halt) → IfOk result (λ a. (a.status ≡ Done) × (message_text a.message ≡ conversion_text conversion))
+      → OnOk result (new ≡ with_files old (placed_files dst conversion)) → IfOk result (λ a. Answered (ConvertsSources dst sources) a.status (message_text a.message) old new)
   converted_answered old new (Err e) says made = tt
   converted_answered old new (Ok a) says made = record {
-    answer = converted dst taken;
-    asked = inl (taken, takes, refl);
+    answer = converted dst judged.0;
+    asked = inl (judged.0, judged.1, refl);
     status_is = sym says.0;
-    text_is = sym says.1;
-    made = made;
+    text_is = sym (says.1 ∙ ap conversion_text judged.2 ∙ text_is judged.0);
+    made = made ∙ ap (with_files old) files_are;
   }
 
-  pub converted_stopped : (old new : Option Files) (result : Result code.Answer Halt) → OnErr result (IsCut old (files_of dst taken) new) → OnErr result (Stopped (ConvertsSources dst sources) old new)
+  pub converted_stopped : (old new : Option Files) (result : Result code.Answer Halt) → OnErr result (IsCut old (placed_files dst conversion) new) → OnErr result (Stopped (ConvertsSources dst sources) old new)
   converted_stopped old new (Ok a) cut = tt
-  converted_stopped old new (Err e) cut = inr (converted dst taken, inl (taken, takes, refl), cut)
+  converted_stopped old new (Err e) cut = inr (converted dst judged.0, inl (judged.0, judged.1, refl), subst (λ fs. IsCut old fs new) files_are cut)
 
 pub refused_answered : (dst : List ℕ) (sources : Sources) (fault : Fault) (status : Status) (text : List ℕ) (old new : Option Files) → IsFirstFault sources fault → status ≡ Refused → text ≡ fault_line fault → new ≡ old
     → Answered (ConvertsSources dst sources) status text old new

@@ -1,9 +1,13 @@
 -- What the files of a project are, file after file, and what sources are.
-use Rattle.std.proofs.Common.{◌≡◌, ◌<◌, ◌≤◌, ◌+◌, inl, inr, ℕ, Bool, true, false, not, cond, List, [], ◌∷◌, ◌++◌, length, get_or, take, Option, Some, None, refl, sym, ◌∙◌, ap, subst, arith}
-use Rattle.std.specs.List.{list_any}
+use Rattle.std.proofs.Common.{◌≡◌, ◌<◌, ◌≤◌, ◌+◌, inl, inr, ℕ, Bool, true, false, not, cond, List, [], ◌∷◌, ◌++◌, length, get_or, take, Option, Some, None, refl, sym, ◌∙◌, ap, subst, arith, map}
+use Rattle.std.specs.List.{list_any, count_by, flat_map}
 use Rattle.std.specs.Str.{bytes_eq}
-use Rattle.std.proofs.lemmas.List.{take_more, take_all}
+use Rattle.std.proofs.lemmas.List.{take_more, take_all, map-append, append-nil}
+use Rattle.std.proofs.lemmas.List.Concat.{flat_map-cons}
+use Rattle.std.proofs.lemmas.List.Sums.{sum_by-append, sum_by-cons}
+use Rattle.std.proofs.lemmas.Grind.{flat_map-append}
 use Rattle.std.proofs.lemmas.List.Elements.{All-get_or}
+use Rattle.j2k_base.specs.declared.choices.Choice.{Choice}
 use Rattle.j2k_base.specs.declared.places.Fault.{Fault}
 use Rattle.j2k_base.specs.declared.series.SourceFile.{SourceFile}
 use Rattle.j2k_sources.specs.declared.limits.TheConstants.{MAX_TOTAL_BYTES}
@@ -12,10 +16,14 @@ use Rattle.j2k_sources.specs.Sources.{AreSmall}
 use Rattle.j2k_tool.specs.declared.files.TakenFile.{TakenFile}
 use Rattle.j2k_tool.specs.declared.files.Found.{Found}
 use Rattle.j2k_tool.specs.declared.files.Found.TheVariants as found
+use Rattle.j2k_tool.specs.declared.writing.MadeFile.{MadeFile}
+use Rattle.j2k_tool.specs.declared.writing.Conversion.{Conversion}
 use Rattle.j2k_tool.specs.declared.project.Firsts.{Firsts}
 use Rattle.j2k_tool.specs.Paths.{class_name, with_name, with_names, names_of}
-use Rattle.j2k_tool.specs.Projects.{AreTaken, IsFirst, AreFirsts, token_fault, spelling_fault, open_form, earliest, added, IsFirstOpen, entries_fault, least}
+use Rattle.j2k_tool.specs.Projects.{AreTaken, IsFirst, AreFirsts, token_fault, spelling_fault, open_form, earliest, added, with_found, IsFirstOpen, entries_fault, least}
 use Rattle.j2k_tool.specs.Sources.{HasTokenFault, HasSpellingFault, HasOpenForm, IsTaken, IsFound}
+use Rattle.j2k_tool.specs.Report.{Choices, has_class}
+use Rattle.j2k_tool.specs.Written.{kotlin_file, conversion_of, with_taken}
 use Rattle.j2k_tool.proofs.Sound.{found_tokens, found_spelling, found_form}
 use Rattle.j2k_tool.proofs.Firsts.{one_more}
 
@@ -32,6 +40,43 @@ right_none : (a b : Option Fault) → earliest a b ≡ None → b ≡ None
 right_none None b e = e
 right_none (Some f) b e = cc
 
+-- ---- what taken files become
+
+abbrev made : List MadeFile → List Choice → ℕ → Conversion
+made files choices classes = record { files = files; choices = choices; classes = classes }
+
+choices_more : (ts : List TakenFile) (t : TakenFile) → flat_map Choices ts ++ Choices t ≡ flat_map Choices (ts ++ t ∷ [])
+choices_more ts t = sym (flat_map-append Choices ts (t ∷ []) ∙ ap (λ (x : List Choice). flat_map Choices ts ++ x) (flat_map-cons Choices t [] ∙ append-nil (Choices t)))
+
+count_more : (ts : List TakenFile) (t : TakenFile) → count_by has_class ts + cond (has_class t) 1 0 ≡ count_by has_class (ts ++ t ∷ [])
+count_more ts t =
+    let all : count_by has_class (ts ++ t ∷ []) ≡ count_by has_class ts + count_by has_class (t ∷ []) = sum_by-append (λ (x : TakenFile). cond (has_class x) 1 0) ts (t ∷ []) in
+    let one : count_by has_class (t ∷ []) ≡ cond (has_class t) 1 0 + 0 = sum_by-cons (λ (x : TakenFile). cond (has_class x) 1 0) t [] in
+    omega (arith, all, one)
+
+conversion_more : (ts : List TakenFile) (t : TakenFile) → with_taken (conversion_of ts) t ≡ conversion_of (ts ++ t ∷ [])
+conversion_more ts t =
+    ap (λ (x : List MadeFile). made x (flat_map Choices ts ++ Choices t) (count_by has_class ts + cond (has_class t) 1 0)) (sym (map-append kotlin_file ts (t ∷ [])))
+    ∙ ap (λ (x : List Choice). made (map kotlin_file (ts ++ t ∷ [])) x (count_by has_class ts + cond (has_class t) 1 0)) (choices_more ts t)
+    ∙ ap (λ (x : ℕ). made (map kotlin_file (ts ++ t ∷ [])) (flat_map Choices (ts ++ t ∷ [])) x) (count_more ts t)
+
+one_at_most : (b : Bool) → cond b 1 0 ≤ 1
+one_at_most true = omega arith
+one_at_most false = omega arith
+
+found_few : (c : Conversion) (x : Found) (n : ℕ) → c.classes ≤ n → (with_found c x).classes ≤ n + 1
+found_few c (found.Tokens f) n few = omega (arith, few)
+found_few c (found.Spelling f) n few = omega (arith, few)
+found_few c (found.Open f) n few = omega (arith, few)
+found_few c (found.Taken t) n few = let one = one_at_most (has_class t) in omega (arith, few, one)
+
+pub added_few : (firsts after : Firsts) (x : Found) (n : ℕ) → after ≡ added firsts x → firsts.conversion.classes ≤ n → after.conversion.classes ≤ n + 1
+added_few firsts after x n now few = subst (λ (f : Firsts). f.conversion.classes ≤ n + 1) (sym now) (found_few firsts.conversion x n few)
+
+-- files are taken, and become this
+abbrev Become : List (List ℕ) → List SourceFile → Conversion → Type 0
+Become classes files conversion = (taken : List TakenFile) × AreTaken classes [] files taken × (conversion ≡ conversion_of taken)
+
 module _ (classes : List (List ℕ)) where
   one_more_taken : (earlier : List (List ℕ)) (files : List SourceFile) (file : SourceFile) (all : List TakenFile) (taken : TakenFile) → AreTaken classes earlier files all
       → IsTaken classes (with_names earlier files) file taken → AreTaken classes earlier (files ++ file ∷ []) (all ++ taken ∷ [])
@@ -41,13 +86,13 @@ module _ (classes : List (List ℕ)) where
   one_more_taken earlier (x ∷ files) file (t ∷ all) taken are is = (are.0, one_more_taken (with_name earlier (class_name x.path)) files file all taken are.1 is)
 
   more_taken : (files : List SourceFile) (file : SourceFile) (firsts : Firsts) (x : Found) → AreFirsts classes files firsts → IsFound classes (with_names [] files) file x
-      → (added firsts x).tokens ≡ None → (added firsts x).spelling ≡ None → (added firsts x).form ≡ None → AreTaken classes [] (files ++ file ∷ []) (added firsts x).taken
+      → (added firsts x).tokens ≡ None → (added firsts x).spelling ≡ None → (added firsts x).form ≡ None → Become classes (files ++ file ∷ []) (added firsts x).conversion
   more_taken files file firsts (found.Tokens f) are is no_tokens no_spelling no_form = let e : Some f ≡ None = right_none firsts.tokens (Some f) no_tokens in cc
   more_taken files file firsts (found.Spelling f) are is no_tokens no_spelling no_form = let e : Some f ≡ None = right_none firsts.spelling (Some f) no_spelling in cc
   more_taken files file firsts (found.Open f) are is no_tokens no_spelling no_form = let e : Some f ≡ None = right_none firsts.form (Some f) no_form in cc
   more_taken files file firsts (found.Taken t) are is no_tokens no_spelling no_form =
-      one_more_taken [] files file firsts.taken t
-      (are.taken (left_none firsts.tokens None no_tokens) (left_none firsts.spelling None no_spelling) (left_none firsts.form None no_form)) is
+      let before = are.taken (left_none firsts.tokens None no_tokens) (left_none firsts.spelling None no_spelling) (left_none firsts.form None no_form) in
+      (before.0 ++ t ∷ [], one_more_taken [] files file before.0 t before.1 is, ap (λ (c : Conversion). with_taken c t) before.2 ∙ conversion_more before.0 t)
 
   pub more_firsts : (files : List SourceFile) (file : SourceFile) (firsts : Firsts) (x : Found) → AreFirsts classes files firsts → IsFound classes (with_names [] files) file x
       → AreFirsts classes (files ++ file ∷ []) (added firsts x)
@@ -58,8 +103,8 @@ module _ (classes : List (List ℕ)) where
     taken = more_taken files file firsts x are is;
   }
 
-  pub no_firsts : (taken : List TakenFile) → taken ≡ [] → AreFirsts classes [] (record { tokens = None; spelling = None; form = None; taken = taken })
-  no_firsts taken none = record { tokens = tt; spelling = tt; form = tt; taken = λ a b c. subst (AreTaken classes [] []) (sym none) tt }
+  pub no_firsts : (conversion : Conversion) → conversion ≡ conversion_of [] → AreFirsts classes [] (record { tokens = None; spelling = None; form = None; conversion = conversion })
+  no_firsts conversion none = record { tokens = tt; spelling = tt; form = tt; taken = λ a b c. ([], tt, none) }
 
 -- a name that was declared
 pub declared : (added : Bool) (names after : List (List ℕ)) (name : List ℕ) → added ≡ not (list_any (bytes_eq name) names) → after ≡ cond added (names ++ name ∷ []) names → after ≡ with_name names name

@@ -1,10 +1,11 @@
 -- Files that are written one after another.
 use Rattle.std.proofs.Common.{◌≡◌, ◌≢◌, ◌<◌, ◌+◌, inl, inr, ℕ, cond, List, [], ◌∷◌, ◌++◌, length, get_or, take, drop, map, Option, Some, None, Result, Ok, Err, IfSome, refl, sym, ◌∙◌, ap, subst, arith, length-append}
 use Rattle.std.specs.Prelude.{IsFalse, is_some, OnErr}
+use Rattle.std.specs.List.{flat_map}
 use Rattle.std.specs.FinMap as finite
 use Rattle.std.specs.FinMap.{get-insert}
 use Rattle.std.proofs.lemmas.Cmp.{nat_list_cmp_total}
-use Rattle.std.proofs.lemmas.List.{take_more, drop_more, take-append-drop, map-append, append_cancel_left, get_or-append_right}
+use Rattle.std.proofs.lemmas.List.{length-map, take_more, drop_more, take-append-drop, map-append, append_cancel_left, get_or-append_right}
 use Rattle.j2k_base.specs.Lists.{Lists}
 use Rattle.j2k_io.specs.Disks.{Files, in_folder, listing, with_file, with_files, IsCut}
 use Rattle.j2k_io.proofs.Listings.{unlisted_is_absent, apart}
@@ -12,8 +13,10 @@ use Rattle.j2k_sources.specs.Sources.{Differ}
 use Rattle.j2k_tool.specs.declared.files.TakenFile.{TakenFile}
 use Rattle.j2k_tool.specs.declared.texts.TheConstants.{KOTLIN_END, REPORT_FILE}
 use Rattle.j2k_tool.specs.declared.writing.MadeFile.{MadeFile}
+use Rattle.j2k_tool.specs.declared.writing.Conversion.{Conversion}
 use Rattle.j2k_tool.specs.Paths.{base_of, kotlin_path}
-use Rattle.j2k_tool.specs.Written.{placed, kotlin_file, report_file, files_of, AreFree}
+use Rattle.j2k_tool.specs.Report.{Choices, ReportText}
+use Rattle.j2k_tool.specs.Written.{placed, kotlin_file, report_file, files_of, conversion_of, placed_files, AreFree}
 
 abbrev Made : Type 0
 Made = List (List ℕ × List ℕ)
@@ -69,14 +72,24 @@ made_differ : (dst text : List ℕ) (taken : List TakenFile) → Differ (kotlin_
 made_differ dst text [] differ = (λ lists. lists, tt)
 made_differ dst text (file ∷ taken) differ = (λ lists. differ.0 (listed_path dst file.path text taken lists), made_differ dst text taken differ.1)
 
+abbrev report : ℕ → List TakenFile → MadeFile
+report n taken = record { path = REPORT_FILE.now; text = ReportText n (flat_map Choices taken) }
+
+-- what a conversion makes is what is asked for
+pub made_are : (dst : List ℕ) (taken : List TakenFile) → placed_files dst (conversion_of taken) ≡ files_of dst taken
+made_are dst taken = ap (λ (n : ℕ). map (placed dst) (map kotlin_file taken ++ report n taken ∷ [])) (length-map taken kotlin_file)
+
 -- the files of a conversion may be made in an empty folder
-pub files_free : (held : Option Files) (dst : List ℕ) (taken : List TakenFile) (made : List MadeFile) → IfSome held (λ files. (listing dst files ≡ []) × Differ (kotlin_paths taken)) → made ≡ map kotlin_file taken ++ report_file taken ∷ []
-    → IfSome held (λ files. AreFree files (map (placed dst) made))
-files_free None dst taken made h is = tt
-files_free (Some held) dst taken made h is =
+free_in : (held : Files) (dst : List ℕ) (taken : List TakenFile) → listing dst held ≡ [] → Differ (kotlin_paths taken) → AreFree held (files_of dst taken)
+free_in held dst taken none differ =
     let long : 0 < length REPORT_FILE.now = omega arith in
-    subst (λ (m : List MadeFile). AreFree held (map (placed dst) m)) (sym is)
-    (free held (files_of dst taken) (absent_made held dst h.0 taken (report_file taken) long) (made_differ dst (report_file taken).text taken h.1))
+    free held (files_of dst taken) (absent_made held dst none taken (report_file taken) long) (made_differ dst (report_file taken).text taken differ)
+
+pub files_free : (held : Option Files) (dst : List ℕ) (taken : List TakenFile) (conversion : Conversion) → conversion ≡ conversion_of taken → IfSome held (λ files. (listing dst files ≡ []) × Differ (kotlin_paths taken))
+    → IfSome held (λ files. AreFree files (placed_files dst conversion))
+files_free None dst taken conversion is h = tt
+files_free (Some held) dst taken conversion is h =
+    subst (AreFree held) (sym (ap (placed_files dst) is ∙ made_are dst taken)) (free_in held dst taken h.0 h.1)
 
 -- ---- one file after another
 

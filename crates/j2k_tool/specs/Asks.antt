@@ -12,6 +12,7 @@ use Rattle.j2k_sources.specs.declared.loading.Loaded.{Loaded}
 use Rattle.j2k_sources.specs.declared.loading.Loaded.TheVariants as loaded
 use Rattle.j2k_sources.specs.Sources.{IsLoaded, Differ}
 use Rattle.j2k_tool.specs.declared.files.TakenFile.{TakenFile}
+use Rattle.j2k_tool.specs.declared.writing.Conversion.{Conversion}
 use Rattle.j2k_tool.specs.declared.faults.TheConstants.{BLANK}
 use Rattle.j2k_tool.specs.declared.texts.TheConstants.{CONVERTED_FILES, CONVERTED_CLASSES, CONVERTED_CHOICES, USAGE, READ_FAULT, WRITE_FAULT, NO_MEMORY, NOT_EMPTY, TOO_LARGE, LINE_END}
 use Rattle.j2k_tool.specs.declared.status.Status.{Status}
@@ -53,6 +54,10 @@ done_text files classes choices =
 -- the files, the classes that stand in them, and the choices
 abbrev pub converted_text : List TakenFile → List ℕ
 converted_text taken = done_text (length taken) (count_by has_class taken) (length (flat_map Choices taken))
+
+-- the same of a conversion
+abbrev pub conversion_text : Conversion → List ℕ
+conversion_text conversion = done_text (length conversion.files) conversion.classes (length conversion.choices)
 
 abbrev pub converted : List ℕ → List TakenFile → Answer
 converted dst taken = record { status = Done; text = converted_text taken; files = files_of dst taken }

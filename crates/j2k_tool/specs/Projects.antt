@@ -1,5 +1,5 @@
 -- The project that stands in a folder, or its first fault.
-use Rattle.std.specs.Prelude.{◌≡◌, ◌≢◌, ◌⊎◌, ℕ, List, [], ◌∷◌, ◌++◌, Bool, map, Option, Some, None, if◌then◌else◌}
+use Rattle.std.specs.Prelude.{◌≡◌, ◌≢◌, ◌⊎◌, ℕ, List, [], ◌∷◌, Bool, map, Option, Some, None, if◌then◌else◌}
 use Rattle.std.specs.Ordering.{nat_cmp, is_lt}
 use Rattle.std.specs.Cmp.Lexicographic.{slice_cmp}
 use Rattle.j2k_base.specs.declared.places.Fault.{Fault}
@@ -13,12 +13,14 @@ use Rattle.meanings.specs.declared.java.JFile.{JFile}
 use Rattle.j2k_tool.specs.declared.files.TakenFile.{TakenFile}
 use Rattle.j2k_tool.specs.declared.files.Found.{Found}
 use Rattle.j2k_tool.specs.declared.files.Found.TheVariants as found
+use Rattle.j2k_tool.specs.declared.writing.Conversion.{Conversion}
 use Rattle.j2k_tool.specs.declared.project.Firsts.{Firsts}
 use Rattle.j2k_tool.specs.declared.project.Project.{Project}
 use Rattle.j2k_tool.specs.declared.project.Project.TheVariants.{Taken, Refused}
 use Rattle.j2k_tool.specs.Faults.{not_built}
 use Rattle.j2k_tool.specs.Firsts.{FirstIn, NoneIn}
 use Rattle.j2k_tool.specs.Paths.{class_name, with_name, names_of}
+use Rattle.j2k_tool.specs.Written.{conversion_of, with_taken}
 use Rattle.j2k_tool.specs.Sources.{HasTokenFault, HasSpellingFault, HasOpenForm, IsTaken}
 
 abbrev pub paths_of : List SourceFile → List (List ℕ)
@@ -81,7 +83,7 @@ trees_of taken = map (λ file. file.typed.file) taken
 
 -- what sources are
 abbrev pub IsJudged : Sources → Project → Type 0
-IsJudged sources (Taken taken) = Takes sources taken
+IsJudged sources (Taken conversion) = (taken : List TakenFile) × Takes sources taken × (conversion ≡ conversion_of taken)
 IsJudged sources (Refused fault) = IsFirstFault sources fault
 
 -- ---- file after file
@@ -91,12 +93,13 @@ abbrev pub IsFirst : (List (List ℕ) → SourceFile → Fault → Type 0) → L
 IsFirst faults earlier files None = NoneIn faults earlier files
 IsFirst faults earlier files (Some fault) = FirstIn faults earlier files fault
 
--- the first of each kind among files of a project whose classes have these names, and where there is none the files that are taken
+-- the first of each kind among files of a project whose classes have these names, and where there is none what the files become
 pub record AreFirsts (classes : List (List ℕ)) (files : List SourceFile) (firsts : Firsts) : Type 0 where
   pub tokens : IsFirst HasTokenFault [] files firsts.tokens
   pub spelling : IsFirst HasSpellingFault [] files firsts.spelling
   pub form : IsFirst (HasOpenForm classes) [] files firsts.form
-  pub taken : firsts.tokens ≡ None → firsts.spelling ≡ None → firsts.form ≡ None → AreTaken classes [] files firsts.taken
+  pub taken : firsts.tokens ≡ None → firsts.spelling ≡ None → firsts.form ≡ None
+      → (taken : List TakenFile) × AreTaken classes [] files taken × (firsts.conversion ≡ conversion_of taken)
 
 -- the fault of each kind that is found
 abbrev pub token_fault : Found → Option Fault
@@ -111,9 +114,9 @@ abbrev pub open_form : Found → Option Fault
 open_form (found.Open fault) = Some fault
 open_form _ = None
 
-abbrev pub taken_file : Found → List TakenFile
-taken_file (found.Taken taken) = taken ∷ []
-taken_file _ = []
+abbrev pub with_found : Conversion → Found → Conversion
+with_found conversion (found.Taken taken) = with_taken conversion taken
+with_found conversion _ = conversion
 
 -- the first of two that there is
 abbrev pub earliest : Option Fault → Option Fault → Option Fault
@@ -125,5 +128,5 @@ added firsts found = record {
   tokens = earliest firsts.tokens (token_fault found);
   spelling = earliest firsts.spelling (spelling_fault found);
   form = earliest firsts.form (open_form found);
-  taken = firsts.taken ++ taken_file found;
+  conversion = with_found firsts.conversion found;
 }

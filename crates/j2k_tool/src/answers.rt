@@ -1,26 +1,23 @@
 // What the words ask for is done, but for printing.
-ghost use Rattle.std.specs.Prelude.{◌≡◌, ◌≢◌, ◌++◌, [], map, IfOk, OnOk, OnErr, IfSome, IsErrOf, IsOkAnd};
+ghost use Rattle.std.specs.Prelude.{◌≡◌, ◌≢◌, ◌++◌, [], IfOk, OnOk, OnErr, IfSome, IsErrOf, IsOkAnd};
 ghost use Rattle.std.specs.Fmt.{decimal};
 ghost use Rattle.j2k_io.specs.Disks.{listing, with_files, IsCut};
 ghost use Rattle.j2k_sources.specs.Causes.{HasCauses};
-ghost use Rattle.j2k_sources.specs.Sources.{Differ, AreSmall, IsSmall};
-ghost use Rattle.j2k_tool.specs.Asks.{Asks, AsksOf, ConvertsLoaded, ConvertsSources, Answered, Stopped, IsAnswer, KotlinDiffer, PathsDiffer, converted_text, done_text as done_text_by, too_large_text as too_large_text_by};
+ghost use Rattle.j2k_sources.specs.Sources.{AreSmall, IsSmall};
+ghost use Rattle.j2k_tool.specs.Asks.{Asks, AsksOf, ConvertsLoaded, ConvertsSources, Answered, Stopped, IsAnswer, KotlinDiffer, PathsDiffer, conversion_text as text_by, too_large_text as too_large_text_by};
 ghost use Rattle.j2k_tool.specs.Faults.{fault_line};
 ghost use Rattle.j2k_tool.specs.Messages.{message_text};
-ghost use Rattle.j2k_tool.specs.Paths.{kotlin_path};
 ghost use Rattle.j2k_tool.specs.Words.{words_mean};
-ghost use Rattle.j2k_tool.specs.Written.{files_of as files_by};
+ghost use Rattle.j2k_tool.specs.Written.{placed_files as placed_by, AreFree};
 
 use crate::faults::{BLANK, line_of, push_number};
-use crate::files::TakenFile;
 use crate::project::{Project, judge};
-use crate::report::{choices_of, classes_in};
 use crate::status::Status;
 use crate::texts::{
     CONVERTED_CHOICES, CONVERTED_CLASSES, CONVERTED_FILES, LINE_END, NOT_EMPTY, TOO_LARGE, USAGE,
 };
 use crate::words::folders;
-use crate::writing::{files_of, write_files};
+use crate::writing::{Conversion, write_files};
 use j2k_base::{Fault, NoMemory, Text, Words};
 use j2k_io::Disk;
 use j2k_sources::{Excess, Halt, Loaded, Sources, list, load};
@@ -164,7 +161,7 @@ fn convert_sources<D: Disk>(
     ensures causes { HasCauses (D.reads disk.old) (D.reads disk.new) (D.writes disk.old) (D.writes disk.new) result }
 {
     match judge(alloc, sources)? {
-        Project::Taken(taken) => write_project(alloc, dst, taken.as_slice(), disk),
+        Project::Taken(conversion) => write_project(alloc, dst, conversion, disk),
         Project::Refused(fault) => Ok(refusal_of(alloc, &fault)?),
     }
 }
@@ -174,19 +171,18 @@ fn convert_sources<D: Disk>(
 fn write_project<D: Disk>(
     alloc: Global,
     dst: &Text,
-    taken: &[TakenFile],
+    conversion: Conversion,
     disk: &mut D,
 ) -> Result<Answer, Halt>
-    requires { IfSome (D.held disk.old) (λ files. (listing dst.now files ≡ []) × Differ (map (λ file. kotlin_path file.path) taken.now)) }
-    ensures answer { IfOk result (λ a. (a.status ≡ Status.Done) × (message_text a.message ≡ converted_text taken.now)) }
-    ensures made { OnOk result (D.held disk.new ≡ with_files (D.held disk.old) (files_by dst.now taken.now)) }
-    ensures cut { OnErr result (IsCut (D.held disk.old) (files_by dst.now taken.now) (D.held disk.new)) }
+    requires { IfSome (D.held disk.old) (λ held. AreFree held (placed_by dst.now conversion)) }
+    ensures answer { IfOk result (λ a. (a.status ≡ Status.Done) × (message_text a.message ≡ text_by conversion)) }
+    ensures made { OnOk result (D.held disk.new ≡ with_files (D.held disk.old) (placed_by dst.now conversion)) }
+    ensures cut { OnErr result (IsCut (D.held disk.old) (placed_by dst.now conversion) (D.held disk.new)) }
     ensures no_read { IsErrOf result Halt.Read → ⊥ }
     ensures causes { HasCauses (D.reads disk.old) (D.reads disk.new) (D.writes disk.old) (D.writes disk.new) result }
 {
-    let choices = choices_of(alloc, taken)?;
-    let message = done_text(alloc, taken.len(), classes_in(taken), choices.len())?;
-    let files = files_of(alloc, taken, choices.as_slice())?;
+    let message = text_of(alloc, &conversion)?;
+    let files = conversion.into_files(alloc)?;
     write_files(alloc, dst, files.as_slice(), disk)?;
     Ok(Answer {
         status: Status::Done,
@@ -194,15 +190,15 @@ fn write_project<D: Disk>(
     })
 }
 
-fn done_text(alloc: Global, files: usize, classes: usize, choices: usize) -> Result<Text, NoMemory>
-    ensures { IfOk result (λ text. text ≡ done_text_by files classes choices) }
+fn text_of(alloc: Global, conversion: &Conversion) -> Result<Text, NoMemory>
+    ensures { IfOk result (λ text. text ≡ text_by conversion.now) }
 {
     let mut text = Text::from_str(alloc, CONVERTED_FILES)?;
-    push_number(alloc, &mut text, files as u64)?;
+    push_number(alloc, &mut text, conversion.files.len() as u64)?;
     text.push_str(CONVERTED_CLASSES)?;
-    push_number(alloc, &mut text, classes as u64)?;
+    push_number(alloc, &mut text, conversion.classes as u64)?;
     text.push_str(CONVERTED_CHOICES)?;
-    push_number(alloc, &mut text, choices as u64)?;
+    push_number(alloc, &mut text, conversion.choices.len() as u64)?;
     text.push_str(LINE_END)?;
     Ok(text)
 }

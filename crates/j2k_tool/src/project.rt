@@ -1,27 +1,25 @@
 // The files of a project.
-ghost use Rattle.std.specs.Prelude.{◌≡◌, [], Some, None, IfOk, OnOk, IfSome, IfNone};
+ghost use Rattle.std.specs.Prelude.{◌≡◌, ◌<◌, ◌+◌, ◌^◌, [], Some, None, IfOk, OnOk, IfSome, IfNone};
 ghost use Rattle.j2k_sources.specs.Sources.{AreSmall};
 ghost use Rattle.j2k_tool.specs.Projects.{precedes as precedes_by, least as least_by, entries_fault as entries_fault_by, earliest, added, AreFirsts, IsFirstOpen, IsFirst, IsJudged};
 ghost use Rattle.j2k_tool.specs.Paths.{class_name as class_name_by, with_name, names_of as names_by};
 ghost use Rattle.j2k_tool.specs.Sources.{HasOpenForm};
 
 use crate::faults::not_built;
-use crate::files::{Found, TakenFile, look};
+use crate::files::{Found, look};
 use crate::paths::class_name;
-use j2k_base::{Fault, NoMemory, Series, SourceFile, Text};
+use crate::writing::Conversion;
+use j2k_base::{Fault, NoMemory, SourceFile, Text};
 use j2k_settings::SETTINGS_FILE;
 use j2k_sources::Sources;
 use java_taken::Names;
 use java_tree::Position;
 use std::alloc::Global;
 
-/// The files of a project that are taken, in the order of their paths.
-pub type TakenFiles = Series<TakenFile>;
-
-/// What sources are: a project that is taken, or one that is refused with its first fault.
+/// What sources are: a project that is taken, as it is converted, or one that is refused with its first fault.
 #[derive(Debug, Drop)]
 pub enum Project {
-    Taken(TakenFiles),
+    Taken(Conversion),
     Refused(Fault),
 }
 
@@ -35,7 +33,7 @@ pub fn judge(alloc: Global, sources: &Sources) -> Result<Project, NoMemory>
         tokens,
         spelling,
         form,
-        taken,
+        conversion,
     } = firsts_of(alloc, &classes, sources.files.as_slice())?;
     if let Some(fault) = tokens {
         return Ok(Project::Refused(fault));
@@ -45,7 +43,7 @@ pub fn judge(alloc: Global, sources: &Sources) -> Result<Project, NoMemory>
     }
     match first_open(alloc, sources, form)? {
         Some(fault) => Ok(Project::Refused(fault)),
-        None => Ok(Project::Taken(taken)),
+        None => Ok(Project::Taken(conversion)),
     }
 }
 
@@ -98,25 +96,26 @@ fn precedes(a: &str, b: &str) -> bool
     a.as_bytes().cmp(b.as_bytes()).is_lt()
 }
 
-/// The first fault of each kind among files, and the files that are taken.
+/// The first fault of each kind among files, and what the files that are taken become.
 #[derive(Debug, Drop)]
 struct Firsts {
     tokens: Option<Fault>,
     spelling: Option<Fault>,
     form: Option<Fault>,
-    taken: TakenFiles,
+    conversion: Conversion,
 }
 
 impl Firsts {
     /// With what is found of one more file.
-    fn add(&mut self, found: Found) -> Result<(), NoMemory>
+    fn add(&mut self, alloc: Global, found: Found) -> Result<(), NoMemory>
+        requires few { self.old.conversion.classes + 1 < 2 ^ 64 }
         ensures { OnOk result (self.new ≡ added self.old found) }
     {
         match found {
             Found::Tokens(fault) => keep_first(&mut self.tokens, fault),
             Found::Spelling(fault) => keep_first(&mut self.spelling, fault),
             Found::Open(fault) => keep_first(&mut self.form, fault),
-            Found::Taken(file) => self.taken.push(file)?,
+            Found::Taken(file) => self.conversion.add(alloc, &file)?,
         }
         Ok(())
     }
@@ -130,8 +129,7 @@ fn keep_first(first: &mut Option<Fault>, fault: Fault)
     }
 }
 
-/// Looks at each file of a project, whose classes have these names, behind the files before it. No tree but the typed
-/// ones is kept.
+/// Looks at each file of a project, whose classes have these names, behind the files before it. No tree is kept.
 fn firsts_of(alloc: Global, classes: &Names, files: &[SourceFile]) -> Result<Firsts, NoMemory>
     requires { AreSmall files.now }
     ensures { IfOk result (AreFirsts classes.now files.now) }
@@ -141,11 +139,11 @@ fn firsts_of(alloc: Global, classes: &Names, files: &[SourceFile]) -> Result<Fir
         tokens: None,
         spelling: None,
         form: None,
-        taken: TakenFiles::new(alloc),
+        conversion: Conversion::new(alloc),
     };
     for file in files {
         let found = look(alloc, classes, &earlier, file)?;
-        firsts.add(found)?;
+        firsts.add(alloc, found)?;
         declare(&mut earlier, file.path.as_str())?;
     }
     Ok(firsts)

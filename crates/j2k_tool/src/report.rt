@@ -1,6 +1,6 @@
 // The choices of a conversion, and the report on them.
 ghost use Rattle.std.specs.Prelude.{◌≡◌, ◌++◌, IfOk, OnOk};
-ghost use Rattle.std.specs.List.{count_by, flat_map};
+ghost use Rattle.std.specs.List.{flat_map};
 ghost use Rattle.j2k_tool.specs.Report.{kind_text as kind_text_by, choice_line, companion, has_class as has_class_by, ReportText, Choices as choices_by};
 
 use crate::faults::{BLANK, push_number, push_place};
@@ -62,19 +62,12 @@ fn kind_text(kind: ChoiceKind) -> &'static str
     }
 }
 
-/// The choices of all files, in their order.
-pub fn choices_of(alloc: Global, taken: &[TakenFile]) -> Result<Choices, NoMemory>
-    ensures { IfOk result (λ choices. choices ≡ flat_map choices_by taken.now) }
-{
-    let mut choices = Choices::new(alloc);
-    for file in taken {
-        push_choices_of(alloc, &mut choices, file)?;
-    }
-    Ok(choices)
-}
-
 /// A class with a static `main` has a companion.
-fn push_choices_of(alloc: Global, choices: &mut Choices, taken: &TakenFile) -> Result<(), NoMemory>
+pub fn push_choices_of(
+    alloc: Global,
+    choices: &mut Choices,
+    taken: &TakenFile,
+) -> Result<(), NoMemory>
     ensures { OnOk result (choices.new ≡ choices.old ++ choices_by taken.now) }
 {
     let Some(at) = taken.typed.at else {
@@ -106,21 +99,9 @@ fn companion_of(alloc: Global, path: &Text, at: Position, name: &Name) -> Result
     })
 }
 
-/// How many files hold a class.
-pub fn classes_in(taken: &[TakenFile]) -> usize
-    ensures { result ≡ count_by has_class_by taken.now }
-{
-    let mut count = 0;
-    for file in taken {
-        if has_class(file) {
-            count += 1;
-        }
-    }
-    count
-}
-
+/// Whether a file holds a class.
 #[tactic(auto, unfolding(crate::specs::Report::has_class))]
-fn has_class(file: &TakenFile) -> bool
+pub fn has_class(file: &TakenFile) -> bool
     ensures { result ≡ has_class_by file.now }
 {
     file.typed.file.class.is_some()

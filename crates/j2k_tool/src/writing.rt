@@ -1,17 +1,16 @@
 // The files of a conversion.
-ghost use Rattle.std.specs.Prelude.{◌≡◌, ◌++◌, ◌∷◌, [], length, map, OnOk, OnErr, IfOk, IfSome, IsErrOf};
+ghost use Rattle.std.specs.Prelude.{◌≡◌, ◌<◌, ◌+◌, ◌^◌, [], map, OnOk, OnErr, IfOk, IfSome, IsErrOf};
 ghost use Rattle.j2k_io.specs.Disks.{with_files, IsCut};
 ghost use Rattle.j2k_sources.specs.Causes.{HasCauses};
-ghost use Rattle.j2k_tool.specs.Report.{ReportText};
-ghost use Rattle.j2k_tool.specs.Written.{placed, kotlin_file as kotlin_file_by, AreFree};
+ghost use Rattle.j2k_tool.specs.Written.{placed, kotlin_file as kotlin_file_by, conversion_of, with_taken, made_by, AreFree};
 
 use crate::conversion::file_of;
 use crate::files::TakenFile;
 use crate::paths::kotlin_path;
 use crate::printing::text_of;
-use crate::report::report_of;
+use crate::report::{has_class, push_choices_of, report_of};
 use crate::texts::REPORT_FILE;
-use j2k_base::{Choice, NoMemory, Series, Text};
+use j2k_base::{Choices, NoMemory, Series, Text};
 use j2k_io::Disk;
 use j2k_sources::{Halt, write};
 use std::alloc::Global;
@@ -25,29 +24,53 @@ pub struct MadeFile {
 
 pub type MadeFiles = Series<MadeFile>;
 
-/// The Kotlin file of each Java file, and the report.
-pub fn files_of(
-    alloc: Global,
-    taken: &[TakenFile],
-    choices: &[Choice],
-) -> Result<MadeFiles, NoMemory>
-    ensures { IfOk result (λ made. made ≡ map kotlin_file_by taken.now ++ record { path = REPORT_FILE.now; text = ReportText (length taken.now) choices.now } ∷ []) }
-{
-    let mut files = kotlin_files(alloc, taken)?;
-    let path = Text::from_str(alloc, REPORT_FILE)?;
-    let text = report_of(alloc, taken.len(), choices)?;
-    files.push(MadeFile { path, text })?;
-    Ok(files)
+/// What files become: the Kotlin file of each, the choices made, and how many of them hold a class.
+#[derive(Debug, Drop)]
+pub struct Conversion {
+    pub files: MadeFiles,
+    pub choices: Choices,
+    pub classes: usize,
 }
 
-fn kotlin_files(alloc: Global, taken: &[TakenFile]) -> Result<MadeFiles, NoMemory>
-    ensures { IfOk result (λ made. made ≡ map kotlin_file_by taken.now) }
-{
-    let mut files = MadeFiles::new(alloc);
-    for file in taken {
-        files.push(kotlin_file(alloc, file)?)?;
+impl Conversion {
+    /// That of no file.
+    pub fn new(alloc: Global) -> Conversion
+        ensures { result ≡ conversion_of [] }
+    {
+        Conversion {
+            files: MadeFiles::new(alloc),
+            choices: Choices::new(alloc),
+            classes: 0,
+        }
     }
-    Ok(files)
+
+    /// With one more file.
+    pub fn add(&mut self, alloc: Global, taken: &TakenFile) -> Result<(), NoMemory>
+        requires few { self.old.classes + 1 < 2 ^ 64 }
+        ensures { OnOk result (self.new ≡ with_taken self.old taken.now) }
+    {
+        self.files.push(kotlin_file(alloc, taken)?)?;
+        push_choices_of(alloc, &mut self.choices, taken)?;
+        if has_class(taken) {
+            self.classes += 1;
+        }
+        Ok(())
+    }
+
+    /// The Kotlin files, and the report.
+    pub fn into_files(self, alloc: Global) -> Result<MadeFiles, NoMemory>
+        ensures { IfOk result (λ made. made ≡ made_by self) }
+    {
+        let Conversion {
+            mut files,
+            choices,
+            ..
+        } = self;
+        let path = Text::from_str(alloc, REPORT_FILE)?;
+        let text = report_of(alloc, files.len(), choices.as_slice())?;
+        files.push(MadeFile { path, text })?;
+        Ok(files)
+    }
 }
 
 fn kotlin_file(alloc: Global, taken: &TakenFile) -> Result<MadeFile, NoMemory>
