@@ -385,17 +385,23 @@ fn nested(alloc: Global, depth: u32) -> Result<String, NoMemory> {
     Ok(text)
 }
 
+// So many parentheses, the status and what is printed. The class, `main` and the arguments are three brackets, and the statement, the call,
+// its arguments and the name four levels of the tree.
+const NESTED: [(u32, Status, &str); 3] = [
+    (196, Status::Done, LINE),
+    (197, Status::Refused, "A.java:1:18: S2 no such form\n"),
+    (198, Status::Refused, "A.java:1:286: S3 nesting too deep\n"),
+];
+
 #[test]
 fn parentheses(rt: HostRuntime) -> Result<(), Failure> {
     let alloc = rt.alloc();
-    let files = file_of(alloc, "src/A.java", nested(alloc, 196)?.as_str())?;
-    let line = "converted: files 1, classes 1, choices 1\n";
-    let done = answers(alloc, files, Status::Done, line)?;
-    assert!(rt; done);
-    let files = file_of(alloc, "src/A.java", nested(alloc, 198)?.as_str())?;
-    let line = "A.java:1:286: S3 nesting too deep\n";
-    let refused = answers(alloc, files, Status::Refused, line)?;
-    assert!(rt; refused);
+    for (depth, status, line) in NESTED {
+        let text = nested(alloc, depth)?;
+        let files = file_of(alloc, "src/A.java", text.as_str())?;
+        let ended = answers(alloc, files, status, line)?;
+        assert!(rt; ended, "for {depth}");
+    }
     Ok(())
 }
 
