@@ -1,7 +1,9 @@
 #!/usr/bin/env python3
 """Writes a project into FOLDER: FILES classes in ten packages, each file of at most BYTES bytes, whose main declares integers from those before.
 
-generate.py FOLDER FILES BYTES
+generate.py FOLDER FILES BYTES [dense]
+
+With `dense` the statements are long sums of short names without a blank, so that a file has many nodes.
 """
 import os
 import sys
@@ -15,14 +17,22 @@ FORMS = [
 ]
 
 
-def text_of(number, size):
-    lines = [HEAD.format(part=number % 10, number=number), "        int longLocal0 = 7;\n", "        int longLocal1 = 9;\n"]
+def line_of(k):
+    line = FORMS[k % 3].format(k=k, a=k - 1, b=k - 2)
+    return line + f"        System.out.println(longLocal{k});\n" if k % 10 == 0 else line
+
+
+def dense_line_of(k):
+    return f"int a{k}=" + "+".join(f"a{k - 1}*a{k - 2}" for _ in range(60)) + ";"
+
+
+def text_of(number, size, dense):
+    first = ["int a0=7;", "int a1=9;"] if dense else ["        int longLocal0 = 7;\n", "        int longLocal1 = 9;\n"]
+    lines = [HEAD.format(part=number % 10, number=number)] + first
     left = size - sum(map(len, lines)) - len(FOOT)
     k = 2
     while True:
-        line = FORMS[k % 3].format(k=k, a=k - 1, b=k - 2)
-        if k % 10 == 0:
-            line += f"        System.out.println(longLocal{k});\n"
+        line = dense_line_of(k) if dense else line_of(k)
         if len(line) > left:
             return "".join(lines) + FOOT
         lines.append(line)
@@ -30,9 +40,9 @@ def text_of(number, size):
         k += 1
 
 
-folder, files, size = sys.argv[1], int(sys.argv[2]), int(sys.argv[3])
+folder, files, size, dense = sys.argv[1], int(sys.argv[2]), int(sys.argv[3]), sys.argv[4:] == ["dense"]
 for number in range(files):
     place = os.path.join(folder, f"part{number % 10}")
     os.makedirs(place, exist_ok=True)
     with open(os.path.join(place, f"Class{number}.java"), "w") as file:
-        file.write(text_of(number, size))
+        file.write(text_of(number, size, dense))

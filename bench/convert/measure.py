@@ -1,7 +1,7 @@
 #!/usr/bin/env python3
-"""Times the converter and javac side by side on the same projects, with their peak memory: measure.py [FILES BYTES ..].
+"""Times the converter and javac side by side on the same projects, with their peak memory: measure.py [FILES BYTES LAYOUT ..].
 
-Run it at the top, where ./j2k has built the program. It wants the command /usr/bin/time; javac is left out where it is missing.
+LAYOUT is `wide` or `dense` (see generate.py). Run it at the top, where ./j2k has built the program. It wants the command /usr/bin/time; javac is left out where it is missing.
 """
 import os
 import shutil
@@ -12,16 +12,16 @@ import tempfile
 sys.path.insert(0, os.path.join(os.path.dirname(os.path.abspath(__file__)), ".."))
 from timing import run
 
-SHAPES = ["2000", "2097", "2000", "8388", "16", "262144", "16", "1048576"]
+SHAPES = ["2000", "2097", "wide", "2000", "8388", "wide", "2000", "8388", "dense", "16", "1048576", "wide", "16", "1048576", "dense"]
 
 
 def java_files(folder):
     return [os.path.join(place, name) for place, _, names in os.walk(folder) for name in names]
 
 
-def measure(top, folder, files, size):
+def measure(top, folder, files, size, layout):
     source = os.path.join(folder, "src")
-    subprocess.run([sys.executable, os.path.join(top, "bench/convert/generate.py"), source, files, size], check=True)
+    subprocess.run([sys.executable, os.path.join(top, "bench/convert/generate.py"), source, files, size, layout], check=True)
     found = java_files(source)
     total = sum(map(os.path.getsize, found))
     with open(os.path.join(folder, "list"), "w") as listed:
@@ -35,10 +35,10 @@ def measure(top, folder, files, size):
             shutil.rmtree(os.path.join(folder, "out"), ignore_errors=True)
             runs.append(run(words, folder))
         seconds, memory, status = min(runs)
-        print(f"{files} files, {total} bytes, {name}: {seconds:.3f} s, {memory:.1f} MB, {memory * 1048576 / total:.1f} a byte, status {status}")
+        print(f"{files} files, {layout}, {total} bytes, {name}: {seconds:.3f} s, {memory:.1f} MB, {memory * 1048576 / total:.1f} a byte, status {status}")
 
 
 words = sys.argv[1:] or SHAPES
-for files, size in zip(words[::2], words[1::2]):
+for files, size, layout in zip(words[::3], words[1::3], words[2::3]):
     with tempfile.TemporaryDirectory() as folder:
-        measure(os.getcwd(), folder, files, size)
+        measure(os.getcwd(), folder, files, size, layout)
