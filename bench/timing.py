@@ -5,13 +5,19 @@ import subprocess
 import time
 
 
-def run(words, folder):
-    """The seconds, the peak memory in MB and the status of one run, by the command time."""
+def timed(words, folder):
+    """The seconds, the seconds of processor time, the peak memory in MB and the status of one run, by the command time."""
     started = time.monotonic()
-    timed = subprocess.run(["/usr/bin/time", "-q", "-f", "%M"] + words, cwd=folder, capture_output=True, text=True)
+    done = subprocess.run(["/usr/bin/time", "-q", "-f", "%M %U %S"] + words, cwd=folder, capture_output=True, text=True)
     seconds = time.monotonic() - started
-    kilobytes = timed.stderr.split("\n")[-2]
-    return seconds, int(kilobytes) / 1024, timed.returncode
+    kilobytes, user, system = done.stderr.split("\n")[-2].split()
+    return seconds, float(user) + float(system), int(kilobytes) / 1024, done.returncode
+
+
+def run(words, folder):
+    """The seconds, the peak memory in MB and the status of one run."""
+    seconds, _, memory, status = timed(words, folder)
+    return seconds, memory, status
 
 
 def below(top, names):

@@ -10,7 +10,7 @@ import sys
 import tempfile
 
 sys.path.insert(0, os.path.join(os.path.dirname(os.path.abspath(__file__)), ".."))
-from timing import run
+from timing import timed
 
 SHAPES = ["2000", "2097", "wide", "2000", "8388", "wide", "2000", "8388", "dense", "16", "1048576", "wide", "16", "1048576", "dense"]
 
@@ -31,11 +31,14 @@ def measure(top, folder, files, size, layout):
         commands["javac"] = ["javac", "-proc:none", "-nowarn", "-d", "classes", "@list"]
     for name, words in commands.items():
         runs = []
-        for turn in range(5 if name == "j2k" else 2):
+        for turn in range(3 if name == "j2k" else 1):
             shutil.rmtree(os.path.join(folder, "out"), ignore_errors=True)
-            runs.append(run(words, folder))
-        seconds, memory, status = min(runs)
-        print(f"{files} files, {layout}, {total} bytes, {name}: {seconds:.3f} s, {memory:.1f} MB, {memory * 1048576 / total:.1f} a byte, status {status}")
+            runs.append(timed(words, folder))
+        seconds, processor, memory, status = min(runs)
+        print(
+            f"{files} files, {layout}, {total} bytes, {name}: {seconds:.2f} s, {processor:.2f} s of processor time, "
+            f"{memory:.1f} MB, {memory * 1048576 / total:.1f} a byte, status {status}"
+        )
 
 
 words = sys.argv[1:] or SHAPES
