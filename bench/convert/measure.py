@@ -15,14 +15,14 @@ from timing import timed
 SHAPES = ["2000", "2097", "wide", "2000", "8388", "wide", "2000", "8388", "dense", "16", "1048576", "wide", "16", "1048576", "dense"]
 
 
-def java_files(folder):
+def java_unit_parser(folder):
     return [os.path.join(place, name) for place, _, names in os.walk(folder) for name in names]
 
 
 def measure(top, folder, files, size, layout):
     source = os.path.join(folder, "src")
     subprocess.run([sys.executable, os.path.join(top, "bench/convert/generate.py"), source, files, size, layout], check=True)
-    found = java_files(source)
+    found = java_unit_parser(source)
     total = sum(map(os.path.getsize, found))
     with open(os.path.join(folder, "list"), "w") as listed:
         listed.write("\n".join(found))

@@ -5,7 +5,7 @@ use Rattle.std.specs.Option.{option_copied, option_to_list}
 use Rattle.std.specs.List.{filter_map, cons_option}
 use Rattle.std.specs.Str.Pattern.{FindsTextPrefix, StripsPrefix}
 use Rattle.j2k_base.specs.Lists.{stripped}
-use Rattle.j2k_base.proofs.Lists.{stripped_is, stripped_of}
+use Rattle.j2k_base.proofs.LawsToCite.{stripped_is, stripped_of}
 use Rattle.j2k_io.specs.Disks.{unless_empty, below}
 
 -- where a front is absent, nothing is stripped

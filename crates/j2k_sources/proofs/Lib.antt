@@ -1,3 +1,4 @@
 pub mod Listed
 pub mod Loads
 pub mod Once
+pub mod LawsToCite

@@ -11,7 +11,7 @@ use Rattle.std.specs.declared.cmp.Ordering.{Ordering}
 use Rattle.std.proofs.lemmas.Cmp.{nat_list_cmp_total, tied_itself}
 use Rattle.j2k_base.specs.Lists.{Lists}
 use Rattle.j2k_io.specs.Disks.{Files, in_folder, below, listing}
-use Rattle.j2k_io.proofs.Listings.{below_is}
+use Rattle.j2k_io.proofs.LawsToCite.{below_is}
 use Rattle.j2k_sources.specs.Sources.{is_java, java_paths, source_at, Differ}
 use Rattle.j2k_base.specs.declared.series.SourceFile.{SourceFile}
 

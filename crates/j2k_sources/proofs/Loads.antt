@@ -10,7 +10,7 @@ use Rattle.j2k_base.specs.Lists.{Lists}
 use Rattle.j2k_base.specs.declared.series.SourceFile.{SourceFile}
 use Rattle.j2k_base.specs.declared.places.Fault.{Fault as FaultAt}
 use Rattle.j2k_io.specs.Disks.{Files, in_folder, listing}
-use Rattle.j2k_io.proofs.Listings.{listed_is_held}
+use Rattle.j2k_io.proofs.LawsToCite.{listed_is_held}
 use Rattle.j2k_settings.specs.declared.reading.TheConstants.{SETTINGS_FILE}
 use Rattle.j2k_settings.specs.Settings.{Sets, bad_settings}
 use Rattle.j2k_sources.specs.declared.limits.Excess.{Excess}

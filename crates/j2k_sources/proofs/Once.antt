@@ -2,7 +2,7 @@
 use Rattle.std.proofs.Common.{◌≡◌, inl, inr, ℕ, Bool, true, false, List, sym, ◌∙◌, ap}
 use Rattle.j2k_base.specs.declared.series.SourceFile.{SourceFile}
 use Rattle.j2k_io.specs.Disks.{Files}
-use Rattle.j2k_settings.proofs.Arrays.{sets_once}
+use Rattle.j2k_settings.proofs.LawsToCite.{sets_once}
 use Rattle.j2k_settings.specs.declared.reading.TheConstants.{SETTINGS_FILE}
 use Rattle.j2k_sources.specs.declared.limits.Excess.{Excess}
 use Rattle.j2k_sources.specs.declared.loading.Sources.{Sources}

@@ -7,12 +7,10 @@ use Rattle.j2k_sources.specs.declared.loading.Loaded.{Loaded}
 use Rattle.j2k_sources.specs.declared.loading.Loaded.TheVariants as loaded
 use Rattle.j2k_sources.specs.Sources.{IsLoaded}
 use Rattle.java_tree.specs.Seen.{seen}
-use Rattle.java_taken.proofs.Taken.{taken as taken_good}
+use Rattle.java_taken.proofs.LawsToCite.{taken as taken_good}
 use Rattle.meanings.specs.Convert.{file_of, files_of}
 use Rattle.meanings.specs.KText.{KText}
-use Rattle.meanings.proofs.Headline.{same_steps}
-use Rattle.meanings.proofs.Spelling.{spells_one}
-use Rattle.meanings.proofs.Typed.{types_are_kept, spelling_is_kept}
+use Rattle.meanings.proofs.LawsToCite.{same_steps, spells_one, types_are_kept, spelling_is_kept}
 use Rattle.j2k_tool.specs.declared.files.TakenFile.{TakenFile}
 use Rattle.j2k_tool.specs.declared.status.Status.{Status}
 use Rattle.j2k_tool.specs.declared.status.Status.TheVariants.{Done, Usage, NotEmpty, TooLarge, Refused}

@@ -5,6 +5,6 @@ pub mod Names
 pub mod Once
 pub mod Outcomes
 pub mod Projects
-pub mod Sound
+pub mod Uniqueness
 pub mod Steps
 pub mod Writes

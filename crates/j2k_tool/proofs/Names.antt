@@ -14,7 +14,7 @@ use Rattle.j2k_base.specs.declared.series.SourceFile.{SourceFile}
 use Rattle.j2k_io.specs.Disks.{Files, listing}
 use Rattle.j2k_sources.specs.declared.loading.TheConstants.{JAVA_END}
 use Rattle.j2k_sources.specs.Sources.{is_java, java_paths, source_at, Differ}
-use Rattle.j2k_sources.proofs.Listed.{sources_differ}
+use Rattle.j2k_sources.proofs.LawsToCite.{sources_differ}
 use Rattle.j2k_tool.specs.declared.texts.TheConstants.{KOTLIN_END}
 use Rattle.j2k_tool.specs.Asks.{KotlinDiffer}
 use Rattle.j2k_tool.specs.Paths.{base_of, kotlin_path, last_or, last_part}

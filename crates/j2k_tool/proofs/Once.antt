@@ -3,7 +3,7 @@ use Rattle.std.proofs.Common.{◌≡◌, inl, inr, ℕ, List, [], ◌∷◌, Opt
 use Rattle.j2k_base.specs.declared.places.Fault.{Fault}
 use Rattle.j2k_base.specs.declared.series.SourceFile.{SourceFile}
 use Rattle.j2k_io.specs.Disks.{Files, listing}
-use Rattle.j2k_sources.proofs.Once.{loaded_once}
+use Rattle.j2k_sources.proofs.LawsToCite.{loaded_once}
 use Rattle.j2k_sources.specs.declared.limits.Excess.{Excess}
 use Rattle.j2k_sources.specs.declared.loading.Sources.{Sources}
 use Rattle.j2k_sources.specs.declared.loading.Loaded.{Loaded}
@@ -19,7 +19,7 @@ use Rattle.j2k_tool.specs.Paths.{class_name, with_name, names_of}
 use Rattle.j2k_tool.specs.Projects.{AreTaken, entries_fault, least, IsFirstOpen, IsFirstFault, Takes, IsProject}
 use Rattle.j2k_tool.specs.Sources.{HasTokenFault, HasSpellingFault, HasOpenForm}
 use Rattle.j2k_tool.specs.Words.{words_mean}
-use Rattle.j2k_tool.proofs.Sound.{token_fault_once, spelling_fault_once, form_once, form_apart, taken_once as file_once, found_tokens, found_spelling}
+use Rattle.j2k_tool.proofs.Uniqueness.{token_fault_once, spelling_fault_once, form_once, form_apart, taken_once as file_once, found_tokens, found_spelling}
 use Rattle.j2k_tool.proofs.Firsts.{none_first, first_once}
 
 -- ---- files are taken in one way, or have one first fault

@@ -24,7 +24,7 @@ use Rattle.j2k_tool.specs.Projects.{AreTaken, IsFirst, AreFirsts, token_fault, s
 use Rattle.j2k_tool.specs.Sources.{HasTokenFault, HasSpellingFault, HasOpenForm, IsTaken, IsFound}
 use Rattle.j2k_tool.specs.Report.{Choices, has_class}
 use Rattle.j2k_tool.specs.Written.{kotlin_file, conversion_of, with_taken}
-use Rattle.j2k_tool.proofs.Sound.{found_tokens, found_spelling, found_form}
+use Rattle.j2k_tool.proofs.Uniqueness.{found_tokens, found_spelling, found_form}
 use Rattle.j2k_tool.proofs.Firsts.{one_more}
 
 pub names_more : (names : List (List ℕ)) (files : List SourceFile) (file : SourceFile) → with_names names (files ++ file ∷ []) ≡ with_name (with_names names files) (class_name file.path)

@@ -8,7 +8,7 @@ use Rattle.std.proofs.lemmas.Cmp.{nat_list_cmp_total}
 use Rattle.std.proofs.lemmas.List.{length-map, take_more, drop_more, take-append-drop, map-append, append_cancel_left, get_or-append_right}
 use Rattle.j2k_base.specs.Lists.{Lists}
 use Rattle.j2k_io.specs.Disks.{Files, in_folder, listing, with_file, with_files, IsCut}
-use Rattle.j2k_io.proofs.Listings.{unlisted_is_absent, apart}
+use Rattle.j2k_io.proofs.LawsToCite.{unlisted_is_absent, apart}
 use Rattle.j2k_sources.specs.Sources.{Differ}
 use Rattle.j2k_tool.specs.declared.files.TakenFile.{TakenFile}
 use Rattle.j2k_tool.specs.declared.texts.TheConstants.{KOTLIN_END, REPORT_FILE}

@@ -8,7 +8,7 @@ use Rattle.java_tree.specs.declared.tokens.Tokens.{Tokens}
 use Rattle.java_lexer.specs.declared.found.LexFault.{LexFault}
 use Rattle.java_lexer.specs.Cutting.{Lexes, Faults}
 use Rattle.java_lexer.specs.Lexing as tokens
-use Rattle.java_units.specs.declared.units.JUnit.{JUnit}
+use Rattle.java_unit_grammar.specs.declared.units.JUnit.{JUnit}
 use Rattle.java_parser.specs.declared.faults.SyntaxFault.{SyntaxFault}
 use Rattle.java_parser.specs.Spelling as spelling
 use Rattle.java_parser.specs.Spelling.{JSpells, IsFaulty}

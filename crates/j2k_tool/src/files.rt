@@ -9,7 +9,7 @@ use java_lexer::lex;
 use java_parser::parse;
 use java_taken::{Judged, Names, TypedFile, judge};
 use java_tree::Tokens;
-use java_units::JUnit;
+use java_unit_grammar::JUnit;
 use std::alloc::Global;
 
 /// A file that is taken: its path, and its typed tree with the place of its class's name.

@@ -4,3 +4,4 @@ pub mod Scans
 pub mod Judged
 pub mod Kept
 pub mod Promises
+pub mod LawsToCite

@@ -3,7 +3,7 @@ use Rattle.std.proofs.Common.{◌≤◌, arith}
 use Rattle.java_tree.specs.declared.exprs.BinaryOp.{BinaryOp}
 use Rattle.java_tree.specs.declared.exprs.BinaryOp.TheVariants as op
 use Rattle.java_tree.specs.Trees.{level}
-use Rattle.java_reading.proofs.ExprParts.{parts}
+use Rattle.java_expr_grammar.proofs.LawsToCite.{expr_parts as parts}
 
 pub level_small : (o : BinaryOp) → level o ≤ 13
 level_small op.OrElse = omega arith

@@ -1,5 +1,5 @@
 -- Lists that are read, an item at a time.
-use Rattle.java_reading.proofs.ExprParts.{parts}
-use Rattle.java_parts.proofs.Rules.{length_shown}
+use Rattle.java_expr_grammar.proofs.LawsToCite.{expr_parts as parts}
+use Rattle.java_type_parser.proofs.LawsToCite.{length_shown}
 
 pub ruleset lists = (parts, length_shown)

@@ -3,10 +3,10 @@ use Rattle.std.proofs.Common.{◌≡◌, List, [], ◌∷◌, Some, None, refl, 
 use Rattle.java_tree.specs.declared.exprs.JExpr.{JExpr}
 use Rattle.java_tree.specs.Seen.{Tokens}
 use Rattle.java_tree.specs.Trees.{any_level, max_depth, JSpells, JSpellsNone}
-use Rattle.java_reading.specs.Reading as r
-use Rattle.java_spelling.proofs.Theorem.{is_spelled, is_read}
-use Rattle.java_pieces.specs.declared.piece.Piece.{Piece}
-use Rattle.java_pieces.specs.Shown.{shown}
+use Rattle.java_expr_grammar.specs.Reading as r
+use Rattle.java_expr_grammar.proofs.LawsToCite.{is_spelled, is_read}
+use Rattle.java_token_cursor.specs.declared.piece.Piece.{Piece}
+use Rattle.java_token_cursor.specs.Shown.{shown}
 
 none_shown : (ts : List Piece) → shown ts ≡ [] → ts ≡ []
 unfolding shown

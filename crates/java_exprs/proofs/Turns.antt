@@ -2,12 +2,12 @@
 use Rattle.std.proofs.Common.{◌≡◌, ℕ, suc, Bool, true, false, ◌&&◌, cond, Some, None, refl, ap, ◌∙◌, nat_lt, nat_le}
 use Rattle.std.proofs.lemmas.Bool.Decides.{nat_tests}
 use Rattle.java_tree.specs.declared.exprs.JExpr.{JExpr}
-use Rattle.java_reading.specs.declared.suffix.Suffix.{Suffix}
+use Rattle.java_expr_grammar.specs.declared.suffix.Suffix.{Suffix}
 use Rattle.java_tree.specs.Seen.{Tokens}
 use Rattle.java_tree.specs.Trees.{depth}
-use Rattle.java_reading.specs.Reading.{Read, ◌>>=◌, maybe, suffix, strength, takes, finish, climb, grown, type_read, base_read, typed_read, read}
+use Rattle.java_expr_grammar.specs.Reading.{Read, ◌>>=◌, maybe, suffix, strength, takes, finish, climb, grown, type_read, base_read, typed_read, read}
 use Rattle.java_exprs.specs.Exprs.{turn}
-use Rattle.java_reading.proofs.ExprParts.{parts}
+use Rattle.java_expr_grammar.proofs.LawsToCite.{expr_parts as parts}
 
 abbrev stepped : (JExpr × Tokens → Read JExpr) → (Bool × JExpr) × Tokens → Read JExpr
 stepped go t = cond t.0.0 (go (t.0.1, t.1)) (Some (t.0.1, t.1))

@@ -5,7 +5,7 @@ use Rattle.java_tree.specs.declared.types.JType.{JType}
 use Rattle.java_tree.specs.declared.exprs.JCreated.TheVariants as created
 use Rattle.java_tree.specs.declared.exprs.JExpr.{JExpr}
 use Rattle.java_tree.specs.Trees.{is_class}
-use Rattle.java_reading.specs.Reading.{Reader}
+use Rattle.java_expr_grammar.specs.Reading.{Reader}
 use Rattle.java_exprs.specs.Rules.{new_args}
 
 -- behind the type and the `(` that follows it

@@ -10,15 +10,15 @@ use Rattle.java_tree.specs.declared.exprs.JExpr.{JExpr}
 use Rattle.java_tree.specs.declared.exprs.JExpr.TheVariants as e
 use Rattle.java_tree.specs.Seen.{Tokens}
 use Rattle.java_tree.specs.Trees.{depth, deepest, else_level, params_depth, created_depth, is_least}
-use Rattle.java_reading.specs.Reading.{Read, Reader, Listed, read, ◌>>=◌, maybe, suffix, strength, takes}
-use Rattle.java_pieces.specs.declared.piece.Piece.{Piece}
-use Rattle.java_pieces.specs.Shown.{shown}
+use Rattle.java_expr_grammar.specs.Reading.{Read, Reader, Listed, read, ◌>>=◌, maybe, suffix, strength, takes}
+use Rattle.java_token_cursor.specs.declared.piece.Piece.{Piece}
+use Rattle.java_token_cursor.specs.Shown.{shown}
 use Rattle.java_exprs.specs.declared.found.ExprFound.{ExprFound}
 use Rattle.java_exprs.specs.declared.found.ExprsFound.{ExprsFound}
 use Rattle.java_exprs.specs.declared.found.Params.{Params}
 use Rattle.java_exprs.specs.declared.found.Made.{Made}
 use Rattle.java_exprs.specs.declared.found.Grown.{Grown}
-use Rattle.java_parts.specs.Gives.{Gives}
+use Rattle.java_type_parser.specs.Gives.{Gives}
 use Rattle.java_exprs.specs.Rules.{finish, prefixed}
 
 abbrev pub expr_found : ExprFound × Bor (List Piece) → JExpr × Tokens

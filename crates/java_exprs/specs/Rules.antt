@@ -10,10 +10,10 @@ use Rattle.java_tree.specs.declared.exprs.JCreated.{JCreated}
 use Rattle.java_tree.specs.declared.exprs.JParam.{JParam}
 use Rattle.java_tree.specs.declared.exprs.JParams.{JParams}
 use Rattle.java_tree.specs.declared.exprs.JExpr.{JExpr}
-use Rattle.java_reading.specs.declared.suffix.Suffix.{Suffix}
+use Rattle.java_expr_grammar.specs.declared.suffix.Suffix.{Suffix}
 use Rattle.std.specs.Prelude.{Option}
-use Rattle.java_reading.specs.Reading.{Reader, Listed, type_read, base_read, typed_read, read}
-use Rattle.java_reading.specs.Reading as r
+use Rattle.java_expr_grammar.specs.Reading.{Reader, Listed, type_read, base_read, typed_read, read}
+use Rattle.java_expr_grammar.specs.Reading as r
 
 abbrev pub cast_of : ℕ → Position → JType → Position → Reader JExpr
 cast_of d lp to rp ts = r.cast_of (type_read d) (base_read d) (typed_read d) (read d) lp to rp ts

@@ -1,17 +1,17 @@
 //! Operands and the suffixes behind them.
 
 ghost use Rattle.std.specs.Prelude.{◌≡◌, ◌≤◌, ◌<◌, ◌+◌};
-ghost use Rattle.java_reading.specs.Reading as r;
-ghost use Rattle.java_pieces.specs.Shown.{shown};
-ghost use Rattle.java_parts.specs.Gives.{Gives};
+ghost use Rattle.java_expr_grammar.specs.Reading as r;
+ghost use Rattle.java_token_cursor.specs.Shown.{shown};
+ghost use Rattle.java_type_parser.specs.Gives.{Gives};
 ghost use Rattle.java_exprs.specs.Rules as g;
 ghost use Rattle.java_exprs.specs.Exprs.{ExprFits, ExprsFit, IsExpr, expr_found, exprs_found, Nests, turn, grown_found, GrownFits};
 
 use crate::found::{ExprFound, ExprsFound, Grown};
 use crate::grammar::Grammar;
 use j2k_base::NoMemory;
-use java_parts::{next_suffix, onward, strength, takes, top};
-use java_pieces::Pieces;
+use java_token_cursor::Pieces;
+use java_type_parser::{next_suffix, onward, strength, takes, top};
 use std::alloc::Global;
 
 impl<
@@ -63,7 +63,7 @@ impl<
         )))
     }
 
-    #[tactic(auto, using(crate::proofs::Turns::turns), unfolding(java_reading::specs::Reading::climb))]
+    #[tactic(auto, using(crate::proofs::Turns::turns), unfolding(java_expr_grammar::specs::Reading::climb))]
     fn climb<'a>(
         &self,
         least: usize,
@@ -90,7 +90,7 @@ impl<
     }
 
     /// An expression of the level `least` or above.
-    #[tactic(auto, using(crate::proofs::Turns::tests), unfolding(java_reading::specs::Reading::level_read))]
+    #[tactic(auto, using(crate::proofs::Turns::tests), unfolding(java_expr_grammar::specs::Reading::level_read))]
     fn level_read<'a>(
         &self,
         least: usize,

@@ -1,9 +1,9 @@
 //! What `new` creates, and the values in braces.
 
 ghost use Rattle.std.specs.Prelude.{◌≡◌, ◌≤◌, ◌<◌, ◌+◌, max, IfOk, ◌∷◌};
-ghost use Rattle.java_reading.specs.Reading as r;
-ghost use Rattle.java_pieces.specs.Shown.{shown};
-ghost use Rattle.java_parts.specs.Gives.{Gives, TypeFits};
+ghost use Rattle.java_expr_grammar.specs.Reading as r;
+ghost use Rattle.java_token_cursor.specs.Shown.{shown};
+ghost use Rattle.java_type_parser.specs.Gives.{Gives, TypeFits};
 ghost use Rattle.java_exprs.specs.Rules as g;
 ghost use Rattle.java_exprs.specs.Creation.{new_class};
 ghost use Rattle.java_exprs.specs.Exprs.{OperandFits, IsMade, expr_found, Nests};
@@ -12,9 +12,11 @@ use crate::ends::args_end;
 use crate::found::{ExprFound, ExprsFound, Made};
 use crate::grammar::Grammar;
 use j2k_base::NoMemory;
-use java_parts::{TypeFound, begins_inferred, brackets, inferred, is_class, larger, read_base};
-use java_pieces::{Head, Pieces, braces_end, close_square, first, open_curly, open_round};
+use java_token_cursor::{Head, Pieces, braces_end, close_square, first, open_curly, open_round};
 use java_tree::{JBrackets, JCreated, JExpr, Mark, Position};
+use java_type_parser::{
+    TypeFound, begins_inferred, brackets, inferred, is_class, larger, read_base,
+};
 use sqlite_items::{Boxed, Items};
 use std::alloc::Global;
 
@@ -36,7 +38,7 @@ fn pairs_from<'a>(
 impl<
     F: Fn(Global, Pieces<'_>, usize, usize) -> Result<Option<(ExprFound, Pieces<'_>)>, NoMemory>,
 > Grammar<F> {
-    #[tactic(auto, using(java_reading::proofs::ExprParts::parts), unfolding(java_reading::specs::Reading::new_args))]
+    #[tactic(auto, using(java_expr_grammar::proofs::LawsToCite::expr_parts), unfolding(java_expr_grammar::specs::Reading::new_args))]
     fn new_args<'a>(
         &self,
         at: Position,
@@ -67,7 +69,7 @@ impl<
         Ok(Some((ExprFound { tree, depth }, rest)))
     }
 
-    #[tactic(auto, using(java_reading::proofs::ExprParts::parts), unfolding(java_reading::specs::Reading::new_inferred))]
+    #[tactic(auto, using(java_expr_grammar::proofs::LawsToCite::expr_parts), unfolding(java_expr_grammar::specs::Reading::new_inferred))]
     fn new_inferred<'a>(
         &self,
         at: Position,
@@ -86,7 +88,7 @@ impl<
         self.new_args(at, Made { tree, depth: 1 }, lp, rest)
     }
 
-    #[tactic(auto, using(java_reading::proofs::ExprParts::parts), unfolding(java_reading::specs::Reading::new_sized))]
+    #[tactic(auto, using(java_expr_grammar::proofs::LawsToCite::expr_parts), unfolding(java_expr_grammar::specs::Reading::new_sized))]
     fn new_sized<'a>(
         &self,
         at: Position,
@@ -113,7 +115,7 @@ impl<
         Ok(Some((ExprFound { tree, depth }, rest)))
     }
 
-    #[tactic(auto, using(java_reading::proofs::ExprParts::parts), unfolding(java_reading::specs::Reading::new_filled))]
+    #[tactic(auto, using(java_expr_grammar::proofs::LawsToCite::expr_parts), unfolding(java_expr_grammar::specs::Reading::new_filled))]
     fn new_filled<'a>(
         &self,
         at: Position,
@@ -148,7 +150,7 @@ impl<
     }
 
     /// Behind the `[` that follows the type.
-    #[tactic(auto, using(java_reading::proofs::ExprParts::parts))]
+    #[tactic(auto, using(java_expr_grammar::proofs::LawsToCite::expr_parts))]
     fn new_array<'a>(
         &self,
         at: Position,
@@ -175,7 +177,7 @@ impl<
     }
 
     /// Behind the type and the `(` that follows it.
-    #[tactic(auto, using(java_reading::proofs::ExprParts::parts))]
+    #[tactic(auto, using(java_expr_grammar::proofs::LawsToCite::expr_parts))]
     fn new_class<'a>(
         &self,
         at: Position,
@@ -200,7 +202,7 @@ impl<
     }
 
     /// Behind the type.
-    #[tactic(auto, using(java_reading::proofs::ExprParts::parts))]
+    #[tactic(auto, using(java_expr_grammar::proofs::LawsToCite::expr_parts))]
     fn new_of<'a>(
         &self,
         at: Position,
@@ -220,7 +222,7 @@ impl<
     }
 
     /// Behind `new`.
-    #[tactic(auto, using(java_reading::proofs::ExprParts::parts), unfolding(java_reading::specs::Reading::creation))]
+    #[tactic(auto, using(java_expr_grammar::proofs::LawsToCite::expr_parts), unfolding(java_expr_grammar::specs::Reading::creation))]
     pub fn creation<'a>(
         &self,
         at: Position,
@@ -240,7 +242,7 @@ impl<
     }
 
     /// The values of an array behind their `{`.
-    #[tactic(auto, using(java_reading::proofs::ExprParts::parts), unfolding(java_reading::specs::Reading::braces))]
+    #[tactic(auto, using(java_expr_grammar::proofs::LawsToCite::expr_parts), unfolding(java_expr_grammar::specs::Reading::braces))]
     pub fn braces<'a>(
         &self,
         lc: Position,

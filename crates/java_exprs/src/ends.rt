@@ -1,10 +1,10 @@
 //! The end of arguments.
 
-ghost use Rattle.java_reading.specs.Reading as r;
-ghost use Rattle.java_pieces.specs.Heads.{Finds};
-ghost use Rattle.java_pieces.specs.Shown.{shown};
+ghost use Rattle.java_expr_grammar.specs.Reading as r;
+ghost use Rattle.java_token_cursor.specs.Heads.{Finds};
+ghost use Rattle.java_token_cursor.specs.Shown.{shown};
 
-use java_pieces::{Head, Pieces, first};
+use java_token_cursor::{Head, Pieces, first};
 use java_tree::{Mark, Position, Span};
 
 /// The `)` behind arguments, and the body of an anonymous class where one stands behind it.

@@ -2,18 +2,18 @@
 
 ghost use Rattle.std.specs.Prelude.{◌≡◌, ◌≤◌, ◌<◌, ◌+◌, length, []};
 ghost use Rattle.java_tree.specs.Trees as s;
-ghost use Rattle.java_reading.specs.Reading as r;
-ghost use Rattle.java_pieces.specs.Shown.{shown};
-ghost use Rattle.java_parts.specs.Gives.{Gives};
+ghost use Rattle.java_expr_grammar.specs.Reading as r;
+ghost use Rattle.java_token_cursor.specs.Shown.{shown};
+ghost use Rattle.java_type_parser.specs.Gives.{Gives};
 ghost use Rattle.java_exprs.specs.Rules as g;
 ghost use Rattle.java_exprs.specs.Exprs.{ExprFits, ExprsFit, expr_found, exprs_found, Nests};
 
 use crate::ends::args_end;
 use crate::found::{ExprFound, ExprsFound};
 use j2k_base::NoMemory;
-use java_parts::{larger, onward};
-use java_pieces::{Pieces, braces_end, comma, inner_comma};
+use java_token_cursor::{Pieces, braces_end, comma, inner_comma};
 use java_tree::Position;
+use java_type_parser::{larger, onward};
 use sqlite_items::Items;
 use std::alloc::Global;
 
@@ -54,7 +54,7 @@ impl<
         }
     }
 
-    #[tactic(auto, using(crate::proofs::Lists::lists), unfolding(java_reading::specs::Reading::some_by))]
+    #[tactic(auto, using(crate::proofs::Lists::lists), unfolding(java_expr_grammar::specs::Reading::some_by))]
     fn some_args<'a>(
         &self,
         pieces: Pieces<'a>,
@@ -71,7 +71,7 @@ impl<
         self.more_args(args, rest)
     }
 
-    #[tactic(auto, using(java_reading::proofs::ExprParts::parts), unfolding(java_reading::specs::Reading::more_by))]
+    #[tactic(auto, using(java_expr_grammar::proofs::LawsToCite::expr_parts), unfolding(java_expr_grammar::specs::Reading::more_by))]
     fn more_args<'a>(
         &self,
         mut found: ExprsFound,
@@ -97,7 +97,7 @@ impl<
     }
 
     /// The arguments up to their `)`.
-    #[tactic(auto, using(java_reading::proofs::ExprParts::parts), unfolding(java_reading::specs::Reading::args_from))]
+    #[tactic(auto, using(java_expr_grammar::proofs::LawsToCite::expr_parts), unfolding(java_expr_grammar::specs::Reading::args_from))]
     pub fn args_from<'a>(
         &self,
         pieces: Pieces<'a>,
@@ -111,7 +111,7 @@ impl<
         self.some_args(pieces)
     }
 
-    #[tactic(auto, using(crate::proofs::Lists::lists), unfolding(java_reading::specs::Reading::some_by))]
+    #[tactic(auto, using(crate::proofs::Lists::lists), unfolding(java_expr_grammar::specs::Reading::some_by))]
     fn some_inits<'a>(
         &self,
         pieces: Pieces<'a>,
@@ -129,7 +129,7 @@ impl<
         self.more_inits(values, rest)
     }
 
-    #[tactic(auto, using(java_reading::proofs::ExprParts::parts), unfolding(java_reading::specs::Reading::more_by))]
+    #[tactic(auto, using(java_expr_grammar::proofs::LawsToCite::expr_parts), unfolding(java_expr_grammar::specs::Reading::more_by))]
     fn more_inits<'a>(
         &self,
         mut found: ExprsFound,
@@ -156,7 +156,7 @@ impl<
     }
 
     /// The values up to the end of the braces.
-    #[tactic(auto, using(java_reading::proofs::ExprParts::parts), unfolding(java_reading::specs::Reading::inits))]
+    #[tactic(auto, using(java_expr_grammar::proofs::LawsToCite::expr_parts), unfolding(java_expr_grammar::specs::Reading::inits))]
     pub fn inits<'a>(
         &self,
         pieces: Pieces<'a>,

@@ -3,27 +3,27 @@
 ghost use Rattle.std.specs.Prelude.{◌≡◌, ◌≤◌, ◌<◌, ◌+◌, max, Some};
 ghost use Rattle.java_tree.specs.Trees as s;
 ghost use Rattle.java_tree.specs.declared.exprs.JExpr.TheVariants as e;
-ghost use Rattle.java_pieces.specs.Shown.{shown};
-ghost use Rattle.java_parts.specs.Gives.{Gives, TypeFits};
+ghost use Rattle.java_token_cursor.specs.Shown.{shown};
+ghost use Rattle.java_type_parser.specs.Gives.{Gives, TypeFits};
 ghost use Rattle.java_exprs.specs.Rules as g;
 ghost use Rattle.java_exprs.specs.Exprs.{OperandFits, IsParams, expr_found, Nests};
 
 use crate::found::{ExprFound, Params};
 use crate::grammar::Grammar;
 use j2k_base::NoMemory;
-use java_parts::{
+use java_token_cursor::{Head, Pieces, arrow, close, first};
+use java_tree::{JExpr, JParams, Position, Span};
+use java_type_parser::{
     ParamsFound, TypeFound, TypedsFound, after_close, begins_arrow, begins_names, begins_sign,
     is_cast, is_primitive, larger, read_type, some_params, typed_from,
 };
-use java_pieces::{Head, Pieces, arrow, close, first};
-use java_tree::{JExpr, JParams, Position, Span};
 use sqlite_items::Boxed;
 use std::alloc::Global;
 
 impl<
     F: Fn(Global, Pieces<'_>, usize, usize) -> Result<Option<(ExprFound, Pieces<'_>)>, NoMemory>,
 > Grammar<F> {
-    #[tactic(auto, using(java_reading::proofs::ExprParts::parts), unfolding(java_reading::specs::Reading::paren))]
+    #[tactic(auto, using(java_expr_grammar::proofs::LawsToCite::expr_parts), unfolding(java_expr_grammar::specs::Reading::paren))]
     fn paren<'a>(
         &self,
         lp: Position,
@@ -50,7 +50,7 @@ impl<
         )))
     }
 
-    #[tactic(auto, using(java_reading::proofs::ExprParts::parts), unfolding(java_reading::specs::Reading::cast))]
+    #[tactic(auto, using(java_expr_grammar::proofs::LawsToCite::expr_parts), unfolding(java_expr_grammar::specs::Reading::cast))]
     fn cast<'a>(
         &self,
         lp: Position,
@@ -73,7 +73,7 @@ impl<
         }
     }
 
-    #[tactic(auto, using(java_reading::proofs::ExprParts::parts), unfolding(java_reading::specs::Reading::cast_of))]
+    #[tactic(auto, using(java_expr_grammar::proofs::LawsToCite::expr_parts), unfolding(java_expr_grammar::specs::Reading::cast_of))]
     fn cast_of<'a>(
         &self,
         lp: Position,
@@ -96,7 +96,7 @@ impl<
     }
 
     /// A lambda behind its parameters, with an expression.
-    #[tactic(auto, using(java_reading::proofs::ExprParts::parts), unfolding(java_reading::specs::Reading::lambda_body))]
+    #[tactic(auto, using(java_expr_grammar::proofs::LawsToCite::expr_parts), unfolding(java_expr_grammar::specs::Reading::lambda_body))]
     fn lambda_body<'a>(
         &self,
         params: Params,
@@ -120,7 +120,7 @@ impl<
     }
 
     /// A lambda with a block.
-    #[tactic(auto, using(java_reading::proofs::ExprParts::parts))]
+    #[tactic(auto, using(java_expr_grammar::proofs::LawsToCite::expr_parts))]
     fn block<'a>(
         &self,
         params: Params,
@@ -140,7 +140,7 @@ impl<
     }
 
     /// Behind the parameters.
-    #[tactic(auto, using(java_reading::proofs::ExprParts::parts), unfolding(java_reading::specs::Reading::lambda))]
+    #[tactic(auto, using(java_expr_grammar::proofs::LawsToCite::expr_parts), unfolding(java_expr_grammar::specs::Reading::lambda))]
     pub fn lambda<'a>(
         &self,
         params: Params,
@@ -157,7 +157,7 @@ impl<
         }
     }
 
-    #[tactic(auto, using(java_reading::proofs::ExprParts::parts), unfolding(java_reading::specs::Reading::lambda_names))]
+    #[tactic(auto, using(java_expr_grammar::proofs::LawsToCite::expr_parts), unfolding(java_expr_grammar::specs::Reading::lambda_names))]
     fn lambda_names<'a>(
         &self,
         lp: Position,
@@ -178,7 +178,7 @@ impl<
         self.lambda(Params { tree, depth: 1 }, rest)
     }
 
-    #[tactic(auto, using(java_reading::proofs::ExprParts::parts), unfolding(java_reading::specs::Reading::lambda_typed, java_reading::specs::Reading::typed_from))]
+    #[tactic(auto, using(java_expr_grammar::proofs::LawsToCite::expr_parts), unfolding(java_expr_grammar::specs::Reading::lambda_typed, java_expr_grammar::specs::Reading::typed_from))]
     fn lambda_typed<'a>(
         &self,
         lp: Position,
@@ -203,7 +203,7 @@ impl<
         self.lambda(Params { tree, depth }, rest)
     }
 
-    #[tactic(auto, using(java_reading::proofs::ExprParts::parts), unfolding(java_reading::specs::Reading::lambda_of))]
+    #[tactic(auto, using(java_expr_grammar::proofs::LawsToCite::expr_parts), unfolding(java_expr_grammar::specs::Reading::lambda_of))]
     fn lambda_of<'a>(
         &self,
         lp: Position,
@@ -221,7 +221,7 @@ impl<
     }
 
     /// Behind a `(`.
-    #[tactic(auto, using(java_reading::proofs::ExprParts::parts), unfolding(java_reading::specs::Reading::group))]
+    #[tactic(auto, using(java_expr_grammar::proofs::LawsToCite::expr_parts), unfolding(java_expr_grammar::specs::Reading::group))]
     pub fn group<'a>(
         &self,
         lp: Position,

@@ -6,25 +6,25 @@ ghost use Rattle.java_tree.specs.Trees as s;
 ghost use Rattle.java_tree.specs.declared.exprs.PrefixOp.TheVariants as prefix;
 ghost use Rattle.java_tree.specs.declared.exprs.JExpr.TheVariants as e;
 ghost use Rattle.java_tree.specs.declared.exprs.JParams.TheVariants as params;
-ghost use Rattle.java_reading.specs.Reading as r;
-ghost use Rattle.java_pieces.specs.Shown.{shown};
-ghost use Rattle.java_parts.specs.Gives.{Gives};
+ghost use Rattle.java_expr_grammar.specs.Reading as r;
+ghost use Rattle.java_token_cursor.specs.Shown.{shown};
+ghost use Rattle.java_type_parser.specs.Gives.{Gives};
 ghost use Rattle.java_exprs.specs.Rules as g;
 ghost use Rattle.java_exprs.specs.Exprs.{OperandFits, expr_found, Nests, literal_read, minus_read};
 
 use crate::found::{ExprFound, ExprsFound, Params};
 use crate::grammar::Grammar;
 use j2k_base::{Name, NoMemory};
-use java_parts::{ident, is_least, prefix};
-use java_pieces::{Head, Pieces, close, copied, copied_literal, dot, first, open_round};
+use java_token_cursor::{Head, Pieces, close, copied, copied_literal, dot, first, open_round};
 use java_tree::{JExpr, JLiteral, JParam, JParams, Keyword, Mark, Position, PrefixOp, TokenKind};
+use java_type_parser::{ident, is_least, prefix};
 use sqlite_items::Boxed;
 use std::alloc::Global;
 
 impl<
     F: Fn(Global, Pieces<'_>, usize, usize) -> Result<Option<(ExprFound, Pieces<'_>)>, NoMemory>,
 > Grammar<F> {
-    #[tactic(auto, using(java_reading::proofs::ExprParts::parts), unfolding(java_reading::specs::Reading::call))]
+    #[tactic(auto, using(java_expr_grammar::proofs::LawsToCite::expr_parts), unfolding(java_expr_grammar::specs::Reading::call))]
     fn call<'a>(
         &self,
         name: Name,
@@ -58,7 +58,7 @@ impl<
         )))
     }
 
-    #[tactic(auto, using(java_reading::proofs::ExprParts::parts), unfolding(java_reading::specs::Reading::super_args))]
+    #[tactic(auto, using(java_expr_grammar::proofs::LawsToCite::expr_parts), unfolding(java_expr_grammar::specs::Reading::super_args))]
     fn super_args<'a>(
         &self,
         above: Position,
@@ -94,7 +94,7 @@ impl<
         )))
     }
 
-    #[tactic(auto, using(java_reading::proofs::ExprParts::parts), unfolding(java_reading::specs::Reading::super_call))]
+    #[tactic(auto, using(java_expr_grammar::proofs::LawsToCite::expr_parts), unfolding(java_expr_grammar::specs::Reading::super_call))]
     fn super_call<'a>(
         &self,
         above: Position,
@@ -116,7 +116,7 @@ impl<
         self.super_args(above, at, name, lp, rest)
     }
 
-    #[tactic(auto, using(java_reading::proofs::ExprParts::parts))]
+    #[tactic(auto, using(java_expr_grammar::proofs::LawsToCite::expr_parts))]
     fn literal<'a>(
         &self,
         kind: &TokenKind,
@@ -135,7 +135,7 @@ impl<
         Ok(Some((ExprFound { tree, depth: 1 }, pieces)))
     }
 
-    #[tactic(auto, using(java_reading::proofs::ExprParts::parts))]
+    #[tactic(auto, using(java_expr_grammar::proofs::LawsToCite::expr_parts))]
     fn this<'a>(
         &self,
         at: Position,
@@ -149,7 +149,7 @@ impl<
         Ok(Some((ExprFound { tree, depth: 1 }, pieces)))
     }
 
-    #[tactic(auto, using(java_reading::proofs::ExprParts::parts))]
+    #[tactic(auto, using(java_expr_grammar::proofs::LawsToCite::expr_parts))]
     fn worded<'a>(
         &self,
         word: Keyword,
@@ -168,7 +168,7 @@ impl<
         }
     }
 
-    #[tactic(auto, using(java_reading::proofs::ExprParts::parts))]
+    #[tactic(auto, using(java_expr_grammar::proofs::LawsToCite::expr_parts))]
     fn name<'a>(
         &self,
         name: Name,
@@ -184,7 +184,7 @@ impl<
     }
 
     /// A lambda of one parameter.
-    #[tactic(auto, using(java_reading::proofs::ExprParts::parts))]
+    #[tactic(auto, using(java_expr_grammar::proofs::LawsToCite::expr_parts))]
     fn lambda_one<'a>(
         &self,
         name: Name,
@@ -199,7 +199,7 @@ impl<
         self.lambda(Params { tree, depth: 1 }, pieces)
     }
 
-    #[tactic(auto, using(java_reading::proofs::ExprParts::parts), unfolding(java_reading::specs::Reading::named))]
+    #[tactic(auto, using(java_expr_grammar::proofs::LawsToCite::expr_parts), unfolding(java_expr_grammar::specs::Reading::named))]
     fn named<'a>(
         &self,
         name: &Name,
@@ -220,7 +220,7 @@ impl<
         }
     }
 
-    #[tactic(auto, using(java_reading::proofs::ExprParts::parts), unfolding(java_reading::specs::Reading::prefixed))]
+    #[tactic(auto, using(java_expr_grammar::proofs::LawsToCite::expr_parts), unfolding(java_expr_grammar::specs::Reading::prefixed))]
     fn prefixed<'a>(
         &self,
         op: PrefixOp,
@@ -246,7 +246,7 @@ impl<
     }
 
     /// `-` and the literal that only it takes.
-    #[tactic(auto, using(java_reading::proofs::ExprParts::parts))]
+    #[tactic(auto, using(java_expr_grammar::proofs::LawsToCite::expr_parts))]
     fn least<'a>(
         &self,
         minus: Position,
@@ -263,7 +263,7 @@ impl<
     }
 
     /// A `-` before a literal: `rest` stands behind that, and `pieces` begins with it.
-    #[tactic(auto, using(java_reading::proofs::ExprParts::parts))]
+    #[tactic(auto, using(java_expr_grammar::proofs::LawsToCite::expr_parts))]
     fn minus_literal<'a>(
         &self,
         minus: Position,
@@ -284,7 +284,7 @@ impl<
         }
     }
 
-    #[tactic(auto, using(java_reading::proofs::ExprParts::parts))]
+    #[tactic(auto, using(java_expr_grammar::proofs::LawsToCite::expr_parts))]
     fn minus<'a>(
         &self,
         at: Position,
@@ -302,7 +302,7 @@ impl<
         }
     }
 
-    #[tactic(auto, using(java_reading::proofs::ExprParts::parts))]
+    #[tactic(auto, using(java_expr_grammar::proofs::LawsToCite::expr_parts))]
     fn marked<'a>(
         &self,
         mark: Mark,
@@ -322,7 +322,7 @@ impl<
     }
 
     /// A prefix, where the mark is one.
-    #[tactic(auto, using(java_reading::proofs::ExprParts::parts), unfolding(java_reading::specs::Reading::prefixed))]
+    #[tactic(auto, using(java_expr_grammar::proofs::LawsToCite::expr_parts), unfolding(java_expr_grammar::specs::Reading::prefixed))]
     fn signed<'a>(
         &self,
         mark: Mark,
@@ -339,7 +339,7 @@ impl<
         self.prefixed(op, at, pieces)
     }
 
-    #[tactic(auto, using(java_reading::proofs::ExprParts::parts), unfolding(java_reading::specs::Reading::operand))]
+    #[tactic(auto, using(java_expr_grammar::proofs::LawsToCite::expr_parts), unfolding(java_expr_grammar::specs::Reading::operand))]
     pub fn operand<'a>(
         &self,
         pieces: Pieces<'a>,

@@ -4,11 +4,11 @@ ghost use Rattle.std.specs.Prelude.{◌≡◌, ◌≤◌, length, IfOk, MatchOpt
 ghost use Rattle.java_tree.specs.Seen.{between};
 ghost use Rattle.java_tree.specs.Seen as t;
 ghost use Rattle.java_tree.specs.Trees.{JSpells, JSpellsNone};
-ghost use Rattle.java_pieces.specs.Shown.{shown};
+ghost use Rattle.java_token_cursor.specs.Shown.{shown};
 
 use crate::climb::read;
 use j2k_base::NoMemory;
-use java_pieces::{Pieces, pieces};
+use java_token_cursor::{Pieces, pieces};
 use java_tree::{JExpr, Tokens};
 use std::alloc::Global;
 

@@ -2,20 +2,20 @@
 
 ghost use Rattle.std.specs.Prelude.{◌≡◌, ◌≤◌, ◌<◌, ◌+◌, max, IfOk, Some};
 ghost use Rattle.java_tree.specs.declared.exprs.JExpr.TheVariants as e;
-ghost use Rattle.java_reading.specs.Reading as r;
-ghost use Rattle.java_reading.specs.declared.suffix.Suffix.TheVariants as sx;
-ghost use Rattle.java_pieces.specs.Shown.{shown};
-ghost use Rattle.java_parts.specs.Gives.{Gives};
+ghost use Rattle.java_expr_grammar.specs.Reading as r;
+ghost use Rattle.java_expr_grammar.specs.declared.suffix.Suffix.TheVariants as sx;
+ghost use Rattle.java_token_cursor.specs.Shown.{shown};
+ghost use Rattle.java_type_parser.specs.Gives.{Gives};
 ghost use Rattle.java_exprs.specs.Rules as g;
 ghost use Rattle.java_exprs.specs.Exprs.{ExprFits, IsExpr, expr_found, Nests, else_read};
 
 use crate::found::{ExprFound, ExprsFound, Half};
 use crate::grammar::Grammar;
 use j2k_base::NoMemory;
-use java_parts::{TypeFound, ident, larger, level, read_type};
-use java_pieces::{Head, Pieces, close, close_square, colon, first};
-use java_reading::Suffix;
+use java_expr_grammar::Suffix;
+use java_token_cursor::{Head, Pieces, close, close_square, colon, first};
 use java_tree::{AssignOp, BinaryOp, JExpr, JParam, Mark, Position, PostfixOp};
+use java_type_parser::{TypeFound, ident, larger, level, read_type};
 use sqlite_items::Boxed;
 use std::alloc::Global;
 
@@ -38,7 +38,7 @@ fn conditional(alloc: Global, half: Half, last: ExprFound) -> Result<ExprFound, 
 impl<
     F: Fn(Global, Pieces<'_>, usize, usize) -> Result<Option<(ExprFound, Pieces<'_>)>, NoMemory>,
 > Grammar<F> {
-    #[tactic(auto, using(crate::proofs::Levels::levels), unfolding(java_reading::specs::Reading::finish))]
+    #[tactic(auto, using(crate::proofs::Levels::levels), unfolding(java_expr_grammar::specs::Reading::finish))]
     fn binary<'a>(
         &self,
         op: BinaryOp,
@@ -60,7 +60,7 @@ impl<
         Ok(Some((ExprFound { tree, depth }, rest)))
     }
 
-    #[tactic(auto, using(java_reading::proofs::ExprParts::parts), unfolding(java_reading::specs::Reading::finish))]
+    #[tactic(auto, using(java_expr_grammar::proofs::LawsToCite::expr_parts), unfolding(java_expr_grammar::specs::Reading::finish))]
     fn assign<'a>(
         &self,
         op: AssignOp,
@@ -82,7 +82,7 @@ impl<
         Ok(Some((ExprFound { tree, depth }, rest)))
     }
 
-    #[tactic(auto, using(java_reading::proofs::ExprParts::parts), unfolding(java_reading::specs::Reading::choice))]
+    #[tactic(auto, using(java_expr_grammar::proofs::LawsToCite::expr_parts), unfolding(java_expr_grammar::specs::Reading::choice))]
     fn choice<'a>(
         &self,
         left: ExprFound,
@@ -110,7 +110,7 @@ impl<
     }
 
     /// Behind the `:`.
-    #[tactic(auto, using(java_reading::proofs::ExprParts::parts))]
+    #[tactic(auto, using(java_expr_grammar::proofs::LawsToCite::expr_parts))]
     fn else_of<'a>(
         &self,
         half: Half,
@@ -129,7 +129,7 @@ impl<
         Ok(Some((found, rest)))
     }
 
-    #[tactic(auto, using(java_reading::proofs::ExprParts::parts), unfolding(java_reading::specs::Reading::finish))]
+    #[tactic(auto, using(java_expr_grammar::proofs::LawsToCite::expr_parts), unfolding(java_expr_grammar::specs::Reading::finish))]
     fn dotted<'a>(
         &self,
         dot: Position,
@@ -148,7 +148,7 @@ impl<
     }
 
     /// Behind a dot and a name.
-    #[tactic(auto, using(java_reading::proofs::ExprParts::parts), unfolding(java_reading::specs::Reading::member))]
+    #[tactic(auto, using(java_expr_grammar::proofs::LawsToCite::expr_parts), unfolding(java_expr_grammar::specs::Reading::member))]
     fn member<'a>(
         &self,
         left: ExprFound,
@@ -167,7 +167,7 @@ impl<
         }
     }
 
-    #[tactic(auto, using(java_reading::proofs::ExprParts::parts))]
+    #[tactic(auto, using(java_expr_grammar::proofs::LawsToCite::expr_parts))]
     fn field<'a>(
         &self,
         left: ExprFound,
@@ -192,7 +192,7 @@ impl<
         )))
     }
 
-    #[tactic(auto, using(java_reading::proofs::ExprParts::parts), unfolding(java_reading::specs::Reading::method))]
+    #[tactic(auto, using(java_expr_grammar::proofs::LawsToCite::expr_parts), unfolding(java_expr_grammar::specs::Reading::method))]
     fn method<'a>(
         &self,
         left: ExprFound,
@@ -224,7 +224,7 @@ impl<
         Ok(Some((ExprFound { tree, depth }, rest)))
     }
 
-    #[tactic(auto, using(java_reading::proofs::ExprParts::parts), unfolding(java_reading::specs::Reading::element))]
+    #[tactic(auto, using(java_expr_grammar::proofs::LawsToCite::expr_parts), unfolding(java_expr_grammar::specs::Reading::element))]
     fn element<'a>(
         &self,
         left: ExprFound,
@@ -248,7 +248,7 @@ impl<
         Ok(Some((ExprFound { tree, depth }, rest)))
     }
 
-    #[tactic(auto, using(java_reading::proofs::ExprParts::parts))]
+    #[tactic(auto, using(java_expr_grammar::proofs::LawsToCite::expr_parts))]
     fn postfix<'a>(
         &self,
         op: PostfixOp,
@@ -273,7 +273,7 @@ impl<
     }
 
     /// Behind `instanceof`.
-    #[tactic(auto, using(java_reading::proofs::ExprParts::parts), unfolding(java_reading::specs::Reading::finish))]
+    #[tactic(auto, using(java_expr_grammar::proofs::LawsToCite::expr_parts), unfolding(java_expr_grammar::specs::Reading::finish))]
     fn test<'a>(
         &self,
         at: Position,
@@ -298,7 +298,7 @@ impl<
     }
 
     /// Behind a suffix.
-    #[tactic(auto, using(java_reading::proofs::ExprParts::parts), unfolding(java_reading::specs::Reading::finish))]
+    #[tactic(auto, using(java_expr_grammar::proofs::LawsToCite::expr_parts), unfolding(java_expr_grammar::specs::Reading::finish))]
     pub fn finish<'a>(
         &self,
         suffix: Suffix,

@@ -9,7 +9,7 @@ use Rattle.java_lexer.specs.declared.found.Piece.{Piece}
 use Rattle.java_lexer.specs.declared.found.Piece.TheVariants.{End, Fault, White, Comment, Token}
 use Rattle.java_lexer.specs.declared.cutting.Before.{Before}
 use Rattle.java_lexer.specs.declared.cutting.Before.TheVariants.{Other}
-use Rattle.java_letters.specs.Letters.{Letters, text_of}
+use Rattle.java_characters.specs.Letters.{Letters, text_of}
 use Rattle.java_lexer.specs.Found.{Cut, is_last}
 use Rattle.java_lexer.specs.Cutting.{next_piece, before_next, Cuts, token_in, comment_in, tokens_of, comments_of, fault_of, Reading}
 

@@ -2,7 +2,7 @@
 use Rattle.std.proofs.Common.{◌≡◌, ℕ, ◌+◌, ◌*◌, ◌^◌, ◌≤◌, min, Bool, true, false, eqb, cond, refl, ◌∙◌, ap, arith, inl, inr}
 use Rattle.std.proofs.lemmas.Bool.Decides.{leb_tells}
 use Rattle.std.specs.Char.{digit_value}
-use Rattle.java_letters.specs.Letters.{Letters, letter, stop}
+use Rattle.java_characters.specs.Letters.{Letters, letter, stop}
 use Rattle.java_lexer.specs.Numbers.{in_radix, value_with, run_value}
 use Rattle.java_lexer.specs.Laws.{exact_with, exact_value}
 

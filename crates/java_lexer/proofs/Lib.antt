@@ -3,3 +3,4 @@ pub mod Cuts
 pub mod LongestMarks
 pub mod Scanned
 pub mod ExactValues
+pub mod LawsToCite

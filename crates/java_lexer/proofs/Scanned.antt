@@ -2,10 +2,10 @@
 use Rattle.std.proofs.Common.{◌≡◌, ℕ, zero, suc, ◌+◌, ◌<◌, Bool, true, false, cond, refl, sym, ◌∙◌, ap, arith}
 use Rattle.std.proofs.lemmas.Bool.{false≢true}
 use Rattle.java_tree.specs.declared.tokens.Position.{Position}
-use Rattle.java_letters.specs.declared.letters.Ending.{Ending}
+use Rattle.java_characters.specs.declared.letters.Ending.{Ending}
 use Rattle.java_lexer.specs.declared.found.Code.TheVariants.{Form}
-use Rattle.java_letters.specs.Letters.{Letters, letter, stop}
-use Rattle.java_letters.specs.Scans.{head, tail, drop_while, drop_letters}
+use Rattle.java_characters.specs.Letters.{Letters, letter, stop}
+use Rattle.java_characters.specs.Scans.{head, tail, drop_while, drop_letters}
 use Rattle.java_lexer.specs.Found.{fault, comment}
 use Rattle.java_lexer.specs.Pieces.{block_piece}
 use Rattle.java_lexer.specs.Laws.{IsLongest, closes, IsFirstClose, end_of}

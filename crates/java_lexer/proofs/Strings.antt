@@ -2,8 +2,8 @@
 use Rattle.std.proofs.Common.{◌≡◌, ℕ, zero, suc, List, [], ◌∷◌, ◌++◌, refl, sym, ◌∙◌, ap}
 use Rattle.java_tree.specs.declared.tokens.Position.{Position}
 use Rattle.java_lexer.specs.declared.literals.Quoted.TheVariants.{One}
-use Rattle.java_letters.specs.Letters.{Letters, letter, stop}
-use Rattle.java_letters.specs.Scans.{drop_letters}
+use Rattle.java_characters.specs.Letters.{Letters, letter, stop}
+use Rattle.java_characters.specs.Scans.{drop_letters}
 use Rattle.java_lexer.specs.Literals.{meaning_of, string_at, string_turn}
 
 -- the letters that belong to an escape are passed over

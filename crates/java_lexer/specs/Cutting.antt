@@ -8,15 +8,15 @@ use Rattle.java_tree.specs.declared.tokens.TokenKind.{TokenKind}
 use Rattle.java_tree.specs.declared.tokens.TokenKind.TheVariants as kinds
 use Rattle.java_tree.specs.declared.tokens.JToken.{JToken}
 use Rattle.java_tree.specs.declared.tokens.Comment as remarks
-use Rattle.java_letters.specs.declared.letters.Ending.{Ending}
-use Rattle.java_letters.specs.declared.letters.Ending.TheVariants as endings
+use Rattle.java_characters.specs.declared.letters.Ending.{Ending}
+use Rattle.java_characters.specs.declared.letters.Ending.TheVariants as endings
 use Rattle.java_lexer.specs.declared.found.Code.TheVariants.{Utf8, Escape, Outside}
 use Rattle.java_lexer.specs.declared.found.LexFault.{LexFault}
 use Rattle.java_lexer.specs.declared.found.Piece.{Piece}
 use Rattle.java_lexer.specs.declared.found.Piece.TheVariants.{End, Fault, White, Comment, Token}
 use Rattle.java_lexer.specs.declared.cutting.Before.{Before}
 use Rattle.java_lexer.specs.declared.cutting.Before.TheVariants.{Other, Minus, At}
-use Rattle.java_letters.specs.Letters.{Letters, letter, stop, text_of}
+use Rattle.java_characters.specs.Letters.{Letters, letter, stop, text_of}
 use Rattle.java_lexer.specs.Found.{Cut, fault, is_last}
 use Rattle.java_lexer.specs.Pieces.{piece_of}
 

@@ -6,8 +6,8 @@ use Rattle.java_lexer.specs.declared.found.Code.{Code}
 use Rattle.java_lexer.specs.declared.found.Piece.{Piece}
 use Rattle.java_lexer.specs.declared.found.Piece.TheVariants.{End, Fault, White, Comment, Token}
 use Rattle.java_lexer.specs.declared.found.Found.{Found}
-use Rattle.java_letters.specs.Letters.{Letters, letters}
-use Rattle.java_letters.specs.Scans.{place_of}
+use Rattle.java_characters.specs.Letters.{Letters, letters}
+use Rattle.java_characters.specs.Scans.{place_of}
 
 -- A piece, and the text behind it. Behind a fault it is what no token of this form takes (own rule).
 pub record Cut : Type 0 where

@@ -3,8 +3,8 @@ use Rattle.std.specs.Prelude.{if◌then◌else◌, ◌*◌, ◌≡◌, ℕ, ◌+
 use Rattle.java_tree.specs.declared.tokens.Mark.{Mark}
 use Rattle.java_tree.specs.Spellings.{mark_text}
 use Rattle.std.specs.Char.{digit_value}
-use Rattle.java_letters.specs.Letters.{Letters, letter, stop}
-use Rattle.java_letters.specs.Scans.{head, tail, drop_letters}
+use Rattle.java_characters.specs.Letters.{Letters, letter, stop}
+use Rattle.java_characters.specs.Scans.{head, tail, drop_letters}
 use Rattle.java_lexer.specs.Numbers.{in_radix}
 
 -- no letter that passes p is left at the front (own rule)

@@ -6,8 +6,8 @@ use Rattle.java_tree.specs.declared.tokens.TokenKind.TheVariants.{Character, Tex
 use Rattle.java_lexer.specs.declared.found.Code.TheVariants.{Form}
 use Rattle.java_lexer.specs.declared.literals.Quoted.{Quoted}
 use Rattle.java_lexer.specs.declared.literals.Quoted.TheVariants.{Close, Bad, BadEscape, One, Two}
-use Rattle.java_letters.specs.Letters.{Letters, letter, stop}
-use Rattle.java_letters.specs.Scans.{head, tail, drop_letters}
+use Rattle.java_characters.specs.Letters.{Letters, letter, stop}
+use Rattle.java_characters.specs.Scans.{head, tail, drop_letters}
 use Rattle.java_lexer.specs.Found.{Cut, fault, token}
 
 -- a line terminator, also one that an escape wrote (JLS 3.4)

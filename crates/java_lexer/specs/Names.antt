@@ -5,11 +5,11 @@ use Rattle.unicode_ident.specs.Ident.{is_xid_start, is_xid_continue}
 use Rattle.java_tree.specs.declared.tokens.Position.{Position}
 use Rattle.java_tree.specs.declared.tokens.TokenKind.TheVariants as kinds
 use Rattle.java_lexer.specs.declared.found.Code.TheVariants as codes
-use Rattle.java_words.specs.declared.words.WordKind.{WordKind}
-use Rattle.java_words.specs.declared.words.WordKind.TheVariants.{Keyword, Outside}
-use Rattle.java_words.specs.Words.{word_kind}
-use Rattle.java_letters.specs.Letters.{Letters, letter, stop}
-use Rattle.java_letters.specs.Scans.{drop_while}
+use Rattle.java_keywords.specs.declared.words.WordKind.{WordKind}
+use Rattle.java_keywords.specs.declared.words.WordKind.TheVariants.{Keyword, Outside}
+use Rattle.java_keywords.specs.Words.{word_kind}
+use Rattle.java_characters.specs.Letters.{Letters, letter, stop}
+use Rattle.java_characters.specs.Scans.{drop_while}
 use Rattle.java_lexer.specs.Found.{Cut, fault, token}
 
 -- A word begins with `$`, `_` or a character of the Unicode property XID_Start (own rule for JLS 3.8).

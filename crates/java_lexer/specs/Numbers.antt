@@ -6,8 +6,8 @@ use Rattle.java_tree.specs.declared.tokens.Position.{Position}
 use Rattle.java_tree.specs.declared.tokens.TokenKind.{TokenKind}
 use Rattle.java_tree.specs.declared.tokens.TokenKind.TheVariants.{Integer, LeastInteger, Long, LeastLong}
 use Rattle.java_lexer.specs.declared.found.Code.TheVariants.{Form, Large, Outside}
-use Rattle.java_letters.specs.Letters.{Letters, letter, stop}
-use Rattle.java_letters.specs.Scans.{head, tail, drop_while}
+use Rattle.java_characters.specs.Letters.{Letters, letter, stop}
+use Rattle.java_characters.specs.Scans.{head, tail, drop_while}
 use Rattle.java_lexer.specs.Found.{Cut, fault, token}
 
 -- a decimal digit (JLS 3.10.1)

@@ -8,8 +8,8 @@ use Rattle.java_lexer.specs.declared.marks.MarkKind.{MarkKind}
 use Rattle.java_lexer.specs.declared.marks.MarkKind.TheVariants.{Nothing, Outside, Mark}
 use Rattle.java_lexer.specs.declared.pieces.Class.{Class}
 use Rattle.java_lexer.specs.declared.pieces.Class.TheVariants as classes
-use Rattle.java_letters.specs.Letters.{Letters, letter, stop}
-use Rattle.java_letters.specs.Scans.{head, tail, drop_while, drop_letters}
+use Rattle.java_characters.specs.Letters.{Letters, letter, stop}
+use Rattle.java_characters.specs.Scans.{head, tail, drop_while, drop_letters}
 use Rattle.java_lexer.specs.Found.{Cut, fault, token, comment}
 use Rattle.java_lexer.specs.Numbers.{is_decimal, number_piece}
 use Rattle.java_lexer.specs.Literals.{is_line_end, string_piece, character_piece}

@@ -1,14 +1,14 @@
 // A text is cut into white space, comments and tokens.
 
 ghost use Rattle.std.specs.Prelude.{◌≡◌, ◌-◌, ◌^◌, ◌<◌, ◌≤◌, ◌++◌, length, false, IfOk, OnOk};
-ghost use Rattle.java_letters.specs.Letters.{letters, IsAt, IsFrom};
+ghost use Rattle.java_characters.specs.Letters.{letters, IsAt, IsFrom};
 ghost use Rattle.java_lexer.specs.Found.{cut_of, is_last};
 ghost use Rattle.java_lexer.specs.Cutting.{is_minus, before_mark, before_kind, before_next, is_override, annotated, behind_at, is_cut, judged, next_piece, token_in, comment_in, end_fault, fault_of, Reading};
 
 use crate::found::{Code, Found, LexFault, Piece, fault};
 use crate::pieces::piece_of;
 use j2k_base::NoMemory;
-use java_letters::{Cursor, Ending, Front, front_at, start};
+use java_characters::{Cursor, Ending, Front, front_at, start};
 use java_tree::{Comments, JTokens, Mark, Position, TokenKind};
 use std::alloc::Global;
 

@@ -2,7 +2,7 @@
 
 ghost use Rattle.std.specs.Prelude.{◌≡◌};
 
-use java_letters::Cursor;
+use java_characters::Cursor;
 use java_tree::{Comment, JToken, Position, TokenKind};
 
 /// Why no case applies.

@@ -1,14 +1,14 @@
 // Character and String literals.
 
 ghost use Rattle.std.specs.Prelude.{◌≡◌, ◌^◌, ◌<◌, ◌≤◌, IfOk, IfSome};
-ghost use Rattle.java_letters.specs.Letters.{letters, IsAt, IsFrom};
-ghost use Rattle.java_letters.specs.Scans.{head, tail, drop_letters};
+ghost use Rattle.java_characters.specs.Letters.{letters, IsAt, IsFrom};
+ghost use Rattle.java_characters.specs.Scans.{head, tail, drop_letters};
 ghost use Rattle.java_lexer.specs.Found.{cut_of};
 ghost use Rattle.java_lexer.specs.Literals.{is_line_end, is_octal, octal_of, simple_of, escape_of, units_of, meaning_of, string_at, string_piece, closed, is_single, character_piece};
 
 use crate::found::{Code, Found, fault, token};
 use j2k_base::{NoMemory, Units};
-use java_letters::{Cursor, Front, front_at, head_at, skip, tail_at};
+use java_characters::{Cursor, Front, front_at, head_at, skip, tail_at};
 use java_tree::{Position, TokenKind};
 use std::alloc::Global;
 

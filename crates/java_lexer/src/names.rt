@@ -1,15 +1,15 @@
 // Words of a text.
 
 ghost use Rattle.std.specs.Prelude.{◌≡◌, ◌++◌, ◌==◌, true, false, encode_utf8, IfOk, IfSome, IfNone};
-ghost use Rattle.java_letters.specs.Letters.{letters, IsAt, IsFrom};
+ghost use Rattle.java_characters.specs.Letters.{letters, IsAt, IsFrom};
 ghost use Rattle.java_lexer.specs.Found.{cut_of};
 ghost use Rattle.java_lexer.specs.Names.{is_start, is_continue, name_of, dollar_in, word_rest, named, word_piece};
 
 use crate::found::{Code, Found, fault, token};
 use j2k_base::{Name, NoMemory};
-use java_letters::{Cursor, Front, front_at};
+use java_characters::{Cursor, Front, front_at};
+use java_keywords::{WordKind, word_kind};
 use java_tree::{Position, TokenKind};
-use java_words::{WordKind, word_kind};
 use std::alloc::Global;
 
 /// The character, where a word may begin with it.

@@ -1,13 +1,13 @@
 // Numbers, and floating-point literals, which are outside the profile.
 
 ghost use Rattle.std.specs.Prelude.{◌≡◌, ◌≢◌, ◌^◌, ◌≤◌, false};
-ghost use Rattle.java_letters.specs.Letters.{letters, IsAt, IsFrom};
-ghost use Rattle.java_letters.specs.Scans.{head, tail};
+ghost use Rattle.java_characters.specs.Letters.{letters, IsAt, IsFrom};
+ghost use Rattle.java_characters.specs.Scans.{head, tail};
 ghost use Rattle.java_lexer.specs.Found.{cut_of};
 ghost use Rattle.java_lexer.specs.Numbers.{is_decimal, in_radix, value_with, run_value, run_last, run_rest, decimal_int, decimal_long, int_kind, long_kind, sized, is_long, integer_piece, whole_piece, is_exponent, is_suffix, is_sign, is_float_mark, suffix_piece, power_piece, exponent_piece, scale_piece, fraction_piece, float_piece, decimal_piece, is_hex_mark, is_binary_mark, is_power_mark, hex_power_piece, hex_fraction_piece, hex_end_piece, hex_piece, binary_piece, number_piece};
 
 use crate::found::{Code, Found, fault, token};
-use java_letters::{Cursor, Front, digit, front_at, head_at, tail_at};
+use java_characters::{Cursor, Front, digit, front_at, head_at, tail_at};
 use java_tree::{Position, TokenKind};
 
 pub fn is_decimal(code: u32) -> bool

@@ -1,8 +1,8 @@
 // What a text begins with: white space, a comment or a token.
 
 ghost use Rattle.std.specs.Prelude.{◌≡◌, ◌≢◌, ◌<◌, ◌≤◌, false, IsTrue, IfOk};
-ghost use Rattle.java_letters.specs.Letters.{letters, letter, IsAt, IsFrom};
-ghost use Rattle.java_letters.specs.Scans.{head, tail, drop_while, drop_letters};
+ghost use Rattle.java_characters.specs.Letters.{letters, letter, IsAt, IsFrom};
+ghost use Rattle.java_characters.specs.Scans.{head, tail, drop_while, drop_letters};
 ghost use Rattle.java_lexer.specs.Found.{cut_of, comment, is_last};
 ghost use Rattle.java_lexer.specs.Pieces.{is_white, is_in, block_piece, mark_piece, slash_piece, begins_number, token_piece, piece_of};
 
@@ -12,7 +12,7 @@ use crate::marks::{MarkKind, mark_of};
 use crate::names::{starting, word_piece};
 use crate::numbers::{is_decimal, number_piece};
 use j2k_base::NoMemory;
-use java_letters::{Cursor, Front, front_at, head_at, place_at, skip, tail_at};
+use java_characters::{Cursor, Front, front_at, head_at, place_at, skip, tail_at};
 use java_tree::{Comment, Position, TokenKind};
 use std::alloc::Global;
 

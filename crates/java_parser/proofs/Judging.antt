@@ -11,21 +11,20 @@ use Rattle.java_brackets.specs.declared.flaws.Flaw.{Flaw}
 use Rattle.java_brackets.specs.declared.flaws.Flaw.TheVariants as w
 use Rattle.java_brackets.specs.declared.stack.Bracket.TheVariants as b
 use Rattle.java_brackets.specs.Brackets.{IsBracket, IsOpening, bracket_of, bracket_at, IsFlawed, IsFirst}
-use Rattle.java_brackets.proofs.Promises.{one_first}
-use Rattle.java_members.specs.declared.lines.JPackage.{JPackage}
-use Rattle.java_members.specs.declared.lines.JImport.{JImport}
-use Rattle.java_units.specs.declared.statements.JMember.{JMember}
-use Rattle.java_units.specs.declared.units.JUnit.{JUnit}
-use Rattle.java_units.specs.Reading as r
-use Rattle.java_units.specs.Tokens.{unit_tokens}
-use Rattle.java_units.specs.Standing.{UnitSpells}
-use Rattle.java_units.proofs.Whole.{unit_is_read, unit_is_spelled, units_one}
-use Rattle.java_runs.specs.Walk.{IsFault, IsSpelled}
-use Rattle.java_runs.proofs.Files.{spelled_read}
-use Rattle.java_runs.proofs.Balance.{none_left}
-use Rattle.java_forms.proofs.Faults as runs
-use Rattle.java_walk.specs.Walks.{IsWalked}
-use Rattle.java_files.specs.declared.files.Declared.{Declared}
+use Rattle.java_brackets.proofs.LawsToCite.{one_first}
+use Rattle.java_member_grammar.specs.declared.lines.JPackage.{JPackage}
+use Rattle.java_member_grammar.specs.declared.lines.JImport.{JImport}
+use Rattle.java_unit_grammar.specs.declared.statements.JMember.{JMember}
+use Rattle.java_unit_grammar.specs.declared.units.JUnit.{JUnit}
+use Rattle.java_unit_grammar.specs.Reading as r
+use Rattle.java_unit_grammar.specs.Tokens.{unit_tokens}
+use Rattle.java_unit_grammar.specs.Standing.{UnitSpells}
+use Rattle.java_unit_grammar.proofs.LawsToCite.{unit_is_read, unit_is_spelled, units_one}
+use Rattle.java_fault_grammar.specs.Walk.{IsFault, IsSpelled}
+use Rattle.java_fault_grammar.proofs.LawsToCite.{spelled_read, none_left}
+use Rattle.java_fault_grammar.proofs.LawsToCite.Faults as runs
+use Rattle.java_fault_finder.specs.Walks.{IsWalked}
+use Rattle.java_unit_parser.specs.declared.files.Declared.{Declared}
 use Rattle.java_parser.specs.declared.faults.SyntaxFault.{SyntaxFault}
 use Rattle.java_parser.specs.declared.faults.SyntaxFault.TheVariants as f
 use Rattle.java_parser.specs.declared.parsing.Judged.{Judged}

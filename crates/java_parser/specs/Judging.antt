@@ -2,9 +2,9 @@
 use Rattle.std.specs.Prelude.{◌≡◌, List, Some, length}
 use Rattle.java_tree.specs.declared.tokens.JToken.{JToken}
 use Rattle.java_tree.specs.Seen.{seen}
-use Rattle.java_units.specs.Reading as r
-use Rattle.java_files.specs.declared.files.Declared.{Declared}
-use Rattle.java_files.specs.Files.{declared_seen}
+use Rattle.java_unit_grammar.specs.Reading as r
+use Rattle.java_unit_parser.specs.declared.files.Declared.{Declared}
+use Rattle.java_unit_parser.specs.Files.{declared_seen}
 use Rattle.java_parser.specs.declared.parsing.Judged.{Judged}
 use Rattle.java_parser.specs.declared.parsing.Judged.TheVariants as j
 use Rattle.java_parser.specs.Spelling.{HasNoFlaw, IsFaulty}

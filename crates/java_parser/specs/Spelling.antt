@@ -10,9 +10,9 @@ use Rattle.java_tree.specs.Seen.{seen}
 use Rattle.java_brackets.specs.declared.flaws.Flaw.{Flaw}
 use Rattle.java_brackets.specs.declared.flaws.Flaw.TheVariants as w
 use Rattle.java_brackets.specs.Brackets.{IsFirst, IsFlawed}
-use Rattle.java_units.specs.declared.units.JUnit.{JUnit}
-use Rattle.java_units.specs.Standing.{UnitSpells}
-use Rattle.java_runs.specs.Walk.{IsFault}
+use Rattle.java_unit_grammar.specs.declared.units.JUnit.{JUnit}
+use Rattle.java_unit_grammar.specs.Standing.{UnitSpells}
+use Rattle.java_fault_grammar.specs.Walk.{IsFault}
 use Rattle.java_parser.specs.declared.faults.SyntaxFault.{SyntaxFault}
 use Rattle.java_parser.specs.declared.faults.SyntaxFault.TheVariants as f
 

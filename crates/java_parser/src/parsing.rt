@@ -3,8 +3,8 @@
 ghost use Rattle.std.specs.Prelude.{◌≡◌, ◌<◌, ◌^◌, ◌⊎◌, ℕ, length, slice_get, Some, None, IfOk, IfErr, MatchResult};
 ghost use Rattle.java_tree.specs.declared.tokens.JToken.{JToken};
 ghost use Rattle.java_tree.specs.Seen.{seen};
-ghost use Rattle.java_units.specs.declared.units.JUnit.{JUnit};
-ghost use Rattle.java_units.specs.Reading as r;
+ghost use Rattle.java_unit_grammar.specs.declared.units.JUnit.{JUnit};
+ghost use Rattle.java_unit_grammar.specs.Reading as r;
 ghost use Rattle.java_parser.specs.declared.faults.SyntaxFault.{SyntaxFault};
 ghost use Rattle.java_parser.specs.Spelling.{JSpells, HasNoFlaw, IsFaulty, fault_in};
 ghost use Rattle.java_parser.specs.Judging.{IsJudged};
@@ -12,10 +12,10 @@ ghost use Rattle.java_parser.specs.Judging.{IsJudged};
 use crate::faults::{SyntaxFault, fault_in, of_flaw};
 use j2k_base::{NoMemory, Stop};
 use java_brackets::{Paired, pairs};
-use java_files::{Declared, unit};
+use java_fault_finder::first_fault;
 use java_tree::{JToken, Tokens};
-use java_units::JUnit;
-use java_walk::first_fault;
+use java_unit_grammar::JUnit;
+use java_unit_parser::{Declared, unit};
 use std::alloc::Global;
 
 /// What is found of a file.

@@ -9,7 +9,7 @@ use Rattle.java_tree.specs.declared.exprs.JExpr.{JExpr, roll-JExpr, out-JExpr, m
 use Rattle.java_tree.specs.declared.exprs.JExpr.TheOpen.{JExpr-F}
 use Rattle.java_tree.specs.Seen.{Token, Tokens}
 use Rattle.java_tree.specs.Trees.{tokens, tokens_by, type_tokens, type_tokens_by, params_tokens}
-use Rattle.java_spelling.proofs.First.{tokens_out, type_tokens_out}
+use Rattle.java_expr_grammar.proofs.LawsToCite.{tokens_out, type_tokens_out}
 use Rattle.java_taken.specs.Places.{first_or, first_of, nowhere, first_at, type_at, params_at}
 
 pub joined_first : (a b : Tokens) (p : Position) → first_or (a ++ b) p ≡ first_or a (first_or b p)

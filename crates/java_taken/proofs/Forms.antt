@@ -4,7 +4,7 @@ use Rattle.java_tree.specs.declared.exprs.JExpr.{JExpr, roll-JExpr, out-JExpr, m
 use Rattle.java_tree.specs.declared.exprs.JExpr.TheOpen.{JExpr-F}
 use Rattle.java_tree.specs.Seen.{Tokens}
 use Rattle.java_tree.specs.Trees.{tokens, tokens_by}
-use Rattle.java_spelling.proofs.First.{tokens_out}
+use Rattle.java_expr_grammar.proofs.LawsToCite.{tokens_out}
 use Rattle.meanings.specs.declared.java.JExpr.{JExpr as TExpr}
 use Rattle.java_taken.specs.Judged.{Judged}
 use Rattle.java_taken.specs.Places.{first_of, first_at}

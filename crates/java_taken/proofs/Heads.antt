@@ -5,13 +5,13 @@ use Rattle.java_tree.specs.declared.exprs.JExpr.{JExpr}
 use Rattle.java_tree.specs.declared.types.JType.{JType}
 use Rattle.java_tree.specs.Seen.{Token, Tokens}
 use Rattle.java_tree.specs.Trees.{tokens, type_tokens, final_tokens}
-use Rattle.java_heads.specs.declared.declarations.JDeclaration.{JDeclaration}
-use Rattle.java_members.specs.declared.modifiers.ModifierKind.{ModifierKind}
-use Rattle.java_members.specs.declared.modifiers.ModifierKind.TheVariants as modifier
-use Rattle.java_members.specs.declared.modifiers.JModifier.{JModifier}
-use Rattle.java_members.specs.Heads.{modifier_tokens}
-use Rattle.java_units.specs.Tokens.{filled}
-use Rattle.java_units.proofs.Texts.{tokens_Simple, tokens_Block, tokens_Labeled, tokens_If, tokens_IfElse, tokens_While, tokens_Do, tokens_For, tokens_Switch, tokens_Synchronized, tokens_Try, tokens_TryFinally, tokens_Declared, tokens_Bodied, tokens_Type}
+use Rattle.java_statement_grammar.specs.declared.declarations.JDeclaration.{JDeclaration}
+use Rattle.java_member_grammar.specs.declared.modifiers.ModifierKind.{ModifierKind}
+use Rattle.java_member_grammar.specs.declared.modifiers.ModifierKind.TheVariants as modifier
+use Rattle.java_member_grammar.specs.declared.modifiers.JModifier.{JModifier}
+use Rattle.java_member_grammar.specs.Heads.{modifier_tokens}
+use Rattle.java_unit_grammar.specs.Tokens.{filled}
+use Rattle.java_unit_grammar.proofs.LawsToCite.{tokens_Simple, tokens_Block, tokens_Labeled, tokens_If, tokens_IfElse, tokens_While, tokens_Do, tokens_For, tokens_Switch, tokens_Synchronized, tokens_Try, tokens_TryFinally, tokens_Declared, tokens_Bodied, tokens_Type}
 use Rattle.java_taken.specs.Places.{first_or, nowhere, first_at, type_at, declaration_at}
 use Rattle.java_taken.proofs.First.{joined_first, first_same, some, type_some}
 

@@ -6,3 +6,4 @@ mod Scopes
 pub mod Taken
 mod Typing
 mod Variants
+pub mod LawsToCite

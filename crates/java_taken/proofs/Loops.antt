@@ -2,7 +2,7 @@
 use Rattle.std.proofs.Common.{◌≡◌, ◌<◌, ◌≤◌, ◌+◌, ℕ, Bool, true, false, not, cond, List, [], ◌∷◌, ◌++◌, length, drop, get_or, refl, sym, ap, ◌∙◌, append_assoc}
 use Rattle.std.proofs.lemmas.List.{append-nil, drop_more, drop_all}
 use Rattle.java_tree.specs.declared.tokens.Position.{Position}
-use Rattle.java_units.specs.declared.statements.JStatement.{JStatement}
+use Rattle.java_unit_grammar.specs.declared.statements.JStatement.{JStatement}
 use Rattle.meanings.specs.declared.java.JStmt.{JStmt}
 use Rattle.java_taken.specs.Judged.{Judged, ◌>>=◌, continued}
 use Rattle.java_taken.specs.Statements.{names_after, statement, statements}

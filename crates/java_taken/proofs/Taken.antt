@@ -14,23 +14,23 @@ use Rattle.java_tree.specs.declared.exprs.JExpr.{JExpr, out-JExpr}
 use Rattle.java_tree.specs.declared.exprs.JExpr.TheOpen.{JExpr-F}
 use Rattle.java_tree.specs.Seen.{Tokens}
 use Rattle.java_tree.specs.Trees.{any_level, TypeStands, TypedStands, Stands, stands_by}
-use Rattle.java_heads.specs.declared.declarations.JValue.{JValue}
-use Rattle.java_heads.specs.declared.declarations.JDeclarator.{JDeclarator}
-use Rattle.java_heads.specs.declared.statements.JSimple.{JSimple}
-use Rattle.java_heads.specs.declared.statements.JSimple.TheVariants as simple
-use Rattle.java_heads.specs.Heads.{value_stands, DeclaratorStands, SimpleStands}
-use Rattle.java_members.specs.declared.heads.JMemberHead.{JMemberHead}
-use Rattle.java_members.specs.declared.heads.JMemberHead.TheVariants as head
-use Rattle.java_members.specs.declared.lines.JPackage.{JPackage}
-use Rattle.java_units.specs.declared.statements.JBody.{JBody}
-use Rattle.java_units.specs.declared.statements.JCase.{JCase}
-use Rattle.java_units.specs.declared.statements.JCaseGroup.{JCaseGroup}
-use Rattle.java_units.specs.declared.statements.JCatch.{JCatch}
-use Rattle.java_units.specs.declared.statements.JMember.{JMember, out-JMember}
-use Rattle.java_units.specs.declared.statements.JStatement.{JStatement, out-JStatement}
-use Rattle.java_units.specs.declared.statements.JBody.TheOpen.{JMember-F, JStatement-F}
-use Rattle.java_units.specs.declared.units.JUnit.{JUnit}
-use Rattle.java_units.specs.Standing.{Role, Owner, owner_of, Node, NodeStands, all_stand, block_stands, member_block, statement_stands, top_stands, file_stands, steps, TopStands, FileStands, UnitSpells}
+use Rattle.java_statement_grammar.specs.declared.declarations.JValue.{JValue}
+use Rattle.java_statement_grammar.specs.declared.declarations.JDeclarator.{JDeclarator}
+use Rattle.java_statement_grammar.specs.declared.statements.JSimple.{JSimple}
+use Rattle.java_statement_grammar.specs.declared.statements.JSimple.TheVariants as simple
+use Rattle.java_statement_grammar.specs.Heads.{value_stands, DeclaratorStands, SimpleStands}
+use Rattle.java_member_grammar.specs.declared.heads.JMemberHead.{JMemberHead}
+use Rattle.java_member_grammar.specs.declared.heads.JMemberHead.TheVariants as head
+use Rattle.java_member_grammar.specs.declared.lines.JPackage.{JPackage}
+use Rattle.java_unit_grammar.specs.declared.statements.JBody.{JBody}
+use Rattle.java_unit_grammar.specs.declared.statements.JCase.{JCase}
+use Rattle.java_unit_grammar.specs.declared.statements.JCaseGroup.{JCaseGroup}
+use Rattle.java_unit_grammar.specs.declared.statements.JCatch.{JCatch}
+use Rattle.java_unit_grammar.specs.declared.statements.JMember.{JMember, out-JMember}
+use Rattle.java_unit_grammar.specs.declared.statements.JStatement.{JStatement, out-JStatement}
+use Rattle.java_unit_grammar.specs.declared.statements.JBody.TheOpen.{JMember-F, JStatement-F}
+use Rattle.java_unit_grammar.specs.declared.units.JUnit.{JUnit}
+use Rattle.java_unit_grammar.specs.Standing.{Role, Owner, owner_of, Node, NodeStands, all_stand, block_stands, member_block, statement_stands, top_stands, file_stands, steps, TopStands, FileStands, UnitSpells}
 use Rattle.meanings.specs.declared.java.JExpr.{JExpr as TExpr}
 use Rattle.meanings.specs.declared.java.JStmt.{JStmt}
 use Rattle.meanings.specs.declared.java.JStmt.TheVariants.{Local, Print}
@@ -44,7 +44,7 @@ use Rattle.meanings.specs.Convert as to
 use Rattle.meanings.specs.KSpells.{IsIdentifier, AreIdentifiers, DeclareNoKeyword, MainHasNoKeyword, ClassHasNoKeyword, AreNoKeywords, HasNoKeyword}
 use Rattle.meanings.specs.JTyped.{Knows, AreTyped, MainIsTyped, ClassIsTyped, JTyped}
 use Rattle.meanings.specs.JNamed.{IsNamed, AreNamed, MainIsNamed, ClassIsNamed, JNamed}
-use Rattle.java_words.specs.Words.{word_kind}
+use Rattle.java_keywords.specs.Words.{word_kind}
 use Rattle.kotlin_words.specs.Words.{hard_keywords, reserved_names, contains_word}
 use Rattle.java_lib.specs.Library.{classes as library_classes}
 use Rattle.java_lib.specs.Classes.{class_simple}

@@ -3,7 +3,7 @@ use Rattle.std.specs.Prelude.{ℕ, Bool, ◌&&◌, ◌||◌, not, List, length, 
 use Rattle.std.specs.List.{list_all, list_any}
 use Rattle.std.specs.Char.{is_ascii_alphabetic, is_ascii_alphanumeric}
 use Rattle.std.specs.Str.{bytes_eq}
-use Rattle.java_words.specs.Words.{word_kind}
+use Rattle.java_keywords.specs.Words.{word_kind}
 use Rattle.kotlin_words.specs.Words.{hard_keywords, reserved_names, contains_word}
 use Rattle.java_lib.specs.Library.{classes}
 use Rattle.java_lib.specs.Classes.{class_simple}

@@ -7,11 +7,11 @@ use Rattle.java_tree.specs.declared.exprs.JParams.{JParams}
 use Rattle.java_tree.specs.declared.exprs.JParams.TheVariants as params
 use Rattle.java_tree.specs.Seen.{Token, Tokens}
 use Rattle.java_tree.specs.Trees.{tokens, type_tokens}
-use Rattle.java_heads.specs.declared.declarations.JDeclaration.{JDeclaration}
-use Rattle.java_heads.specs.Heads.{declaration_tokens}
-use Rattle.java_units.specs.declared.statements.JMember.{JMember}
-use Rattle.java_units.specs.declared.statements.JStatement.{JStatement}
-use Rattle.java_units.specs.Tokens.{statement_tokens, whole_member_tokens}
+use Rattle.java_statement_grammar.specs.declared.declarations.JDeclaration.{JDeclaration}
+use Rattle.java_statement_grammar.specs.Heads.{declaration_tokens}
+use Rattle.java_unit_grammar.specs.declared.statements.JMember.{JMember}
+use Rattle.java_unit_grammar.specs.declared.statements.JStatement.{JStatement}
+use Rattle.java_unit_grammar.specs.Tokens.{statement_tokens, whole_member_tokens}
 
 abbrev pub token_at : Token → Position
 token_at (Token.Sign mark at) = at

@@ -7,17 +7,17 @@ use Rattle.java_tree.specs.declared.types.JType.{JType, out-JType}
 use Rattle.java_tree.specs.declared.types.JType.TheOpen.{JType-F}
 use Rattle.java_tree.specs.declared.exprs.JExpr.{JExpr, out-JExpr}
 use Rattle.java_tree.specs.declared.exprs.JExpr.TheOpen.{JExpr-F}
-use Rattle.java_heads.specs.declared.declarations.JValue.{JValue}
-use Rattle.java_heads.specs.declared.declarations.JDeclarator.{JDeclarator}
-use Rattle.java_heads.specs.declared.statements.JSimple.{JSimple}
-use Rattle.java_heads.specs.declared.statements.JSimple.TheVariants as simple
-use Rattle.java_units.specs.declared.statements.JBody.{JBody}
-use Rattle.java_units.specs.declared.statements.JCase.{JCase}
-use Rattle.java_units.specs.declared.statements.JCaseGroup.{JCaseGroup}
-use Rattle.java_units.specs.declared.statements.JCatch.{JCatch}
-use Rattle.java_units.specs.declared.statements.JMember.{JMember}
-use Rattle.java_units.specs.declared.statements.JStatement.{JStatement, out-JStatement}
-use Rattle.java_units.specs.declared.statements.JBody.TheOpen.{JStatement-F}
+use Rattle.java_statement_grammar.specs.declared.declarations.JValue.{JValue}
+use Rattle.java_statement_grammar.specs.declared.declarations.JDeclarator.{JDeclarator}
+use Rattle.java_statement_grammar.specs.declared.statements.JSimple.{JSimple}
+use Rattle.java_statement_grammar.specs.declared.statements.JSimple.TheVariants as simple
+use Rattle.java_unit_grammar.specs.declared.statements.JBody.{JBody}
+use Rattle.java_unit_grammar.specs.declared.statements.JCase.{JCase}
+use Rattle.java_unit_grammar.specs.declared.statements.JCaseGroup.{JCaseGroup}
+use Rattle.java_unit_grammar.specs.declared.statements.JCatch.{JCatch}
+use Rattle.java_unit_grammar.specs.declared.statements.JMember.{JMember}
+use Rattle.java_unit_grammar.specs.declared.statements.JStatement.{JStatement, out-JStatement}
+use Rattle.java_unit_grammar.specs.declared.statements.JBody.TheOpen.{JStatement-F}
 use Rattle.meanings.specs.declared.java.JStmt.{JStmt}
 use Rattle.meanings.specs.declared.java.JStmt.TheVariants.{Local, Print}
 use Rattle.java_taken.specs.Judged.{Judged, ◌>>=◌}

@@ -10,24 +10,24 @@ use Rattle.java_tree.specs.declared.types.JType.{JType, out-JType}
 use Rattle.java_tree.specs.declared.types.JType.TheOpen.{JType-F}
 use Rattle.java_tree.specs.declared.types.JBrackets.{JBrackets}
 use Rattle.java_tree.specs.declared.exprs.JTypedParam.{JTypedParam}
-use Rattle.java_members.specs.declared.modifiers.JModifier.{JModifier}
-use Rattle.java_members.specs.declared.modifiers.ModifierKind.{ModifierKind}
-use Rattle.java_members.specs.declared.modifiers.ModifierKind.TheVariants as modifier
-use Rattle.java_members.specs.declared.heads.JResult.TheVariants as result
-use Rattle.java_members.specs.declared.heads.JMemberHead.{JMemberHead}
-use Rattle.java_members.specs.declared.heads.JMemberHead.TheVariants as head
-use Rattle.java_members.specs.declared.heads.JTypeHead.{JTypeHead}
-use Rattle.java_members.specs.declared.heads.JTypeHead.TheVariants as kind
-use Rattle.java_members.specs.declared.lines.JImport.{JImport}
-use Rattle.java_members.specs.declared.lines.JPackage.{JPackage}
-use Rattle.java_units.specs.declared.statements.JBody.{JBody}
-use Rattle.java_units.specs.declared.statements.JCase.{JCase}
-use Rattle.java_units.specs.declared.statements.JCaseGroup.{JCaseGroup}
-use Rattle.java_units.specs.declared.statements.JCatch.{JCatch}
-use Rattle.java_units.specs.declared.statements.JMember.{JMember, out-JMember}
-use Rattle.java_units.specs.declared.statements.JStatement.{JStatement}
-use Rattle.java_units.specs.declared.statements.JBody.TheOpen.{JMember-F}
-use Rattle.java_units.specs.declared.units.JUnit.{JUnit}
+use Rattle.java_member_grammar.specs.declared.modifiers.JModifier.{JModifier}
+use Rattle.java_member_grammar.specs.declared.modifiers.ModifierKind.{ModifierKind}
+use Rattle.java_member_grammar.specs.declared.modifiers.ModifierKind.TheVariants as modifier
+use Rattle.java_member_grammar.specs.declared.heads.JResult.TheVariants as result
+use Rattle.java_member_grammar.specs.declared.heads.JMemberHead.{JMemberHead}
+use Rattle.java_member_grammar.specs.declared.heads.JMemberHead.TheVariants as head
+use Rattle.java_member_grammar.specs.declared.heads.JTypeHead.{JTypeHead}
+use Rattle.java_member_grammar.specs.declared.heads.JTypeHead.TheVariants as kind
+use Rattle.java_member_grammar.specs.declared.lines.JImport.{JImport}
+use Rattle.java_member_grammar.specs.declared.lines.JPackage.{JPackage}
+use Rattle.java_unit_grammar.specs.declared.statements.JBody.{JBody}
+use Rattle.java_unit_grammar.specs.declared.statements.JCase.{JCase}
+use Rattle.java_unit_grammar.specs.declared.statements.JCaseGroup.{JCaseGroup}
+use Rattle.java_unit_grammar.specs.declared.statements.JCatch.{JCatch}
+use Rattle.java_unit_grammar.specs.declared.statements.JMember.{JMember, out-JMember}
+use Rattle.java_unit_grammar.specs.declared.statements.JStatement.{JStatement}
+use Rattle.java_unit_grammar.specs.declared.statements.JBody.TheOpen.{JMember-F}
+use Rattle.java_unit_grammar.specs.declared.units.JUnit.{JUnit}
 use Rattle.meanings.specs.declared.java.JMain.{JMain}
 use Rattle.meanings.specs.declared.java.JClass.{JClass}
 use Rattle.java_taken.specs.declared.judged.Judged.{Judged as Answer}

@@ -2,8 +2,8 @@
 
 ghost use Rattle.std.specs.Prelude.{◌≡◌, ℕ, List};
 ghost use Rattle.java_tree.specs.Seen.{Tokens};
-ghost use Rattle.java_units.specs.Standing.{UnitSpells};
-ghost use Rattle.java_units.specs.declared.units.JUnit.{JUnit};
+ghost use Rattle.java_unit_grammar.specs.Standing.{UnitSpells};
+ghost use Rattle.java_unit_grammar.specs.declared.units.JUnit.{JUnit};
 ghost use Rattle.meanings.specs.Convert.{file_of};
 ghost use Rattle.meanings.specs.JNamed.{JNamed};
 ghost use Rattle.meanings.specs.JTyped.{JTyped};

@@ -2,14 +2,14 @@
 
 ghost use Rattle.std.specs.Prelude.{◌≡◌};
 ghost use Rattle.java_tree.specs.declared.tokens.Position.{Position};
-ghost use Rattle.java_heads.specs.Heads.{simple_tokens};
-ghost use Rattle.java_members.specs.Heads.{member_tokens, modifiers_tokens, result_tokens, type_head_tokens, type_params_tokens};
+ghost use Rattle.java_statement_grammar.specs.Heads.{simple_tokens};
+ghost use Rattle.java_member_grammar.specs.Heads.{member_tokens, modifiers_tokens, result_tokens, type_head_tokens, type_params_tokens};
 ghost use Rattle.java_taken.specs.Places as s;
 
-use java_heads::{JDeclaration, JSimple};
-use java_members::{JMemberHead, JModifier, JResult, JTypeHead, JTypeParams};
+use java_member_grammar::{JMemberHead, JModifier, JResult, JTypeHead, JTypeParams};
+use java_statement_grammar::{JDeclaration, JSimple};
 use java_tree::{JExpr, JParams, JType, Position};
-use java_units::{JMember, JStatement};
+use java_unit_grammar::{JMember, JStatement};
 
 /// The first token of a type.
 #[tactic(auto, using(crate::proofs::Variants::types))]

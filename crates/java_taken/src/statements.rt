@@ -11,9 +11,9 @@ use crate::names::Names;
 use crate::places::statement_at;
 use crate::words::{OUT, PRINTLN, SYSTEM, is_free};
 use j2k_base::{Name, NoMemory};
-use java_heads::{JDeclaration, JDeclarator, JSimple};
+use java_statement_grammar::{JDeclaration, JDeclarator, JSimple};
 use java_tree::{JExpr, JType, Position, Primitive};
-use java_units::JStatement;
+use java_unit_grammar::JStatement;
 use meanings::java::{JStmt, JStmts};
 use std::alloc::Global;
 

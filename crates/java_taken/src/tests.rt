@@ -1,7 +1,7 @@
 use crate::{Judged, Names, judge};
 use j2k_base::Text;
 use java_tree::{Comment, Comments, Position};
-use java_units::JUnit;
+use java_unit_grammar::JUnit;
 use sqlite_items::Items;
 use std::alloc::Global;
 use std::test::Fail;

@@ -10,9 +10,11 @@ use crate::places::member_at;
 use crate::statements::statements;
 use crate::words::{JAVA_END, MAIN, SLASH, STRING, is_free};
 use j2k_base::{Name, NoMemory, Text};
-use java_members::{JImport, JMemberHead, JModifier, JPackage, JResult, JTypeHead, ModifierKind};
+use java_member_grammar::{
+    JImport, JMemberHead, JModifier, JPackage, JResult, JTypeHead, ModifierKind,
+};
 use java_tree::{Comment, JDotted, JQualified, JType, JTypedParam, Position};
-use java_units::{JMember, JStatement, JUnit};
+use java_unit_grammar::{JMember, JStatement, JUnit};
 use meanings::java::{JClass, JFile, JMain};
 use meanings::names::Names as Parts;
 use std::alloc::Global;

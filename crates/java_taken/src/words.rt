@@ -4,8 +4,8 @@ ghost use Rattle.std.specs.List.{list_all};
 ghost use Rattle.std.specs.Char.{is_ascii_alphanumeric};
 ghost use Rattle.java_taken.specs.Names as n;
 
+use java_keywords::word_kind;
 use java_lib::simple_row;
-use java_words::word_kind;
 use kotlin_words::{is_hard_keyword, is_reserved_name};
 
 // The root of the packages of Java's library.

@@ -15,3 +15,4 @@ pub mod Words
 pub mod Expressions
 pub mod Spelling
 pub mod Numbers
+pub mod LawsToCite

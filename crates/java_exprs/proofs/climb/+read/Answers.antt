@@ -1,7 +1,7 @@
-use Rattle.java_pieces.specs.Shown.{shown}
+use Rattle.java_token_cursor.specs.Shown.{shown}
 use Rattle.std.proofs.Common.{◌≡◌, ap, arith, subst, suc, ◌-◌, add-one}
-use Rattle.java_reading.specs.Reading as r
-use Rattle.java_parts.specs.Gives.{Gives}
+use Rattle.java_expr_grammar.specs.Reading as r
+use Rattle.java_type_parser.specs.Gives.{Gives}
 use Rattle.java_exprs.specs.Exprs.{ExprFits, expr_found}
 use Rattle.java_exprs.proofs.climb.+read.Goals as goal
 

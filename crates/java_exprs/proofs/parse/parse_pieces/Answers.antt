@@ -2,7 +2,7 @@ use Rattle.std.proofs.Common.{rules, arith, ◌≡◌, ◌∙◌, ap, sym, subst
 use Rattle.std.proofs.lemmas.Grind.{common_steps}
 use Rattle.java_tree.specs.Trees.{JSpells}
 use Rattle.java_tree.specs.declared.exprs.JExpr.{JExpr}
-use Rattle.java_pieces.specs.Shown.{shown}
+use Rattle.java_token_cursor.specs.Shown.{shown}
 use Rattle.java_exprs.proofs.Parsed.{spelled_whole, shown_none}
 use Rattle.java_exprs.proofs.parse.parse_pieces.Goals as goal
 

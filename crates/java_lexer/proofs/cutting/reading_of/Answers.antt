@@ -1,5 +1,5 @@
 use Rattle.std.proofs.Common.{◌≡◌, true, false, sym, ◌∙◌, subst, arith, length-append}
-use Rattle.java_letters.specs.Letters.{letters, text_of}
+use Rattle.java_characters.specs.Letters.{letters, text_of}
 use Rattle.java_lexer.specs.Found.{is_last}
 use Rattle.java_lexer.specs.Cutting.{Reading, token_in}
 use Rattle.java_lexer.proofs.Cuts.{goes_on, ends, one_token}

@@ -1,5 +1,5 @@
 use Rattle.std.proofs.Common.{length, ◌≤◌, ◌-◌}
-use Rattle.java_letters.specs.Letters.{letters, text_of, IsAt}
+use Rattle.java_characters.specs.Letters.{letters, text_of, IsAt}
 use Rattle.java_lexer.proofs.Cuts.{GoesOn}
 use Rattle.java_lexer.proofs.cutting.reading_of.Given as goal
 

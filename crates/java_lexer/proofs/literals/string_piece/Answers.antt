@@ -1,5 +1,5 @@
 use Rattle.std.proofs.Common.{◌∙◌, arith}
-use Rattle.java_letters.specs.Letters.{letters}
+use Rattle.java_characters.specs.Letters.{letters}
 use Rattle.java_lexer.proofs.Strings.{one_more}
 use Rattle.java_lexer.proofs.literals.string_piece.Goals as goal
 

@@ -1,6 +1,6 @@
 use Rattle.std.proofs.Common.{◌≡◌, ◌-◌, ◌++◌, ◌==◌, length}
 use Rattle.std.specs.Char.{encode_utf8}
-use Rattle.java_letters.specs.Letters.{letters, IsFrom}
+use Rattle.java_characters.specs.Letters.{letters, IsFrom}
 use Rattle.java_lexer.specs.Names.{name_of, dollar_in, word_rest}
 use Rattle.java_lexer.proofs.names.word_at.Given as goal
 

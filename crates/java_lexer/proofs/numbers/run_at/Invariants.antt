@@ -1,5 +1,5 @@
 use Rattle.std.proofs.Common.{◌≡◌, ◌-◌, ◌^◌, ◌≤◌, length}
-use Rattle.java_letters.specs.Letters.{letters, IsFrom}
+use Rattle.java_characters.specs.Letters.{letters, IsFrom}
 use Rattle.java_lexer.specs.Numbers.{run_value, run_last, run_rest}
 use Rattle.java_lexer.proofs.numbers.run_at.Given as goal
 

@@ -1,5 +1,5 @@
 use Rattle.std.proofs.Common.{◌≡◌, ◌-◌, length}
-use Rattle.java_letters.specs.Letters.{letters, IsFrom}
+use Rattle.java_characters.specs.Letters.{letters, IsFrom}
 use Rattle.java_lexer.specs.Pieces.{block_piece}
 use Rattle.java_lexer.proofs.pieces.block_piece.Given as goal
 

@@ -1,6 +1,6 @@
 use Rattle.std.proofs.Common.{◌≡◌, ◌-◌, length}
-use Rattle.java_letters.specs.Letters.{letters, IsFrom}
-use Rattle.java_letters.specs.Scans.{drop_while}
+use Rattle.java_characters.specs.Letters.{letters, IsFrom}
+use Rattle.java_characters.specs.Scans.{drop_while}
 use Rattle.java_lexer.specs.Pieces.{is_in}
 use Rattle.java_lexer.proofs.pieces.past.Given as goal
 

@@ -1,6 +1,6 @@
 use Rattle.std.proofs.Common.{subst}
 use Rattle.java_tree.specs.Seen.{seen}
-use Rattle.java_walk.specs.Walks.{Walked}
+use Rattle.java_fault_finder.specs.Walks.{Walked}
 use Rattle.java_parser.proofs.Judging.{no_form, not_walked}
 use Rattle.java_parser.proofs.parsing.unspelled.Goals as goal
 

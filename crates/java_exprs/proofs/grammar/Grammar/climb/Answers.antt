@@ -1,7 +1,7 @@
-use Rattle.java_pieces.specs.Shown.{shown}
+use Rattle.java_token_cursor.specs.Shown.{shown}
 use Rattle.std.proofs.Common.{◌∙◌}
-use Rattle.java_reading.specs.Reading as r
-use Rattle.java_reading.proofs.Parts.{one_more}
+use Rattle.java_expr_grammar.specs.Reading as r
+use Rattle.java_expr_grammar.proofs.LawsToCite.{one_more}
 use Rattle.java_exprs.proofs.Turns.{done_turn, longer_turn}
 use Rattle.java_exprs.proofs.grammar.Grammar.climb.Goals as goal
 

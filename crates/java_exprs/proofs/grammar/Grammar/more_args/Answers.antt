@@ -1,9 +1,9 @@
-use Rattle.java_pieces.specs.Shown.{shown}
+use Rattle.java_token_cursor.specs.Shown.{shown}
 use Rattle.std.proofs.Common.{rules, arith}
 use Rattle.std.proofs.lemmas.Grind.{common_steps}
 use Rattle.java_tree.specs.Trees as s
-use Rattle.java_reading.specs.Reading as r
-use Rattle.java_reading.proofs.Parts.{one_more, deepest_more}
+use Rattle.java_expr_grammar.specs.Reading as r
+use Rattle.java_expr_grammar.proofs.LawsToCite.{one_more, deepest_more}
 use Rattle.java_exprs.proofs.grammar.Grammar.more_args.Goals as goal
 
 pub returns-in_default : goal.returns-in_default

@@ -1,7 +1,7 @@
-use Rattle.java_pieces.specs.Shown.{shown}
+use Rattle.java_token_cursor.specs.Shown.{shown}
 use Rattle.std.proofs.Common.{◌≡◌, ◌≤◌, ◌-◌, length, map}
 use Rattle.java_tree.specs.Trees as s
-use Rattle.java_reading.specs.Reading as r
+use Rattle.java_expr_grammar.specs.Reading as r
 use Rattle.java_exprs.proofs.grammar.Grammar.more_inits.Given as goal
 
 abbrev pub invariant-loop-turn : goal.invariant-loop-turn

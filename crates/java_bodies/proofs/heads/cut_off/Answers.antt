@@ -1,5 +1,0 @@
-use Rattle.java_bodies.proofs.Fits.{cut_given}
-use Rattle.java_bodies.proofs.heads.cut_off.Goals as goal
-
-pub returns : goal.returns
-returns c = cut_given _ _ _ c.requires c.cut.ensures

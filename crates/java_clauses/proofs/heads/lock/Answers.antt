@@ -1,6 +1,0 @@
-use Rattle.java_pieces.specs.Shown.{shown}
-use Rattle.java_clauses.proofs.Spelled.{lock_given}
-use Rattle.java_clauses.proofs.heads.lock.Goals as goal
-
-pub returns-clause-spelled : goal.returns-clause-spelled
-returns-clause-spelled c = lock_given c.args.depth (shown c.args.pieces.now) c.lock_read.result c.lock_read.ensures

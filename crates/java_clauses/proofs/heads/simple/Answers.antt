@@ -1,6 +1,0 @@
-use Rattle.java_pieces.specs.Shown.{shown}
-use Rattle.java_clauses.proofs.Spelled.{simple_given}
-use Rattle.java_clauses.proofs.heads.simple.Goals as goal
-
-pub returns-clause-spelled : goal.returns-clause-spelled
-returns-clause-spelled c = simple_given c.args.depth (shown c.args.pieces.now) c.simple_read.result c.simple_read.ensures

@@ -1,0 +1,14 @@
+pub mod Seen
+pub mod Tools
+pub mod Parts
+pub mod ExprParts
+pub mod TypeTexts
+pub mod ExprTexts
+pub mod Lists
+pub mod Trees
+pub mod TypeLaws
+pub mod First
+pub mod Soundness
+pub mod Completeness
+pub mod Theorem
+pub mod LawsToCite

@@ -1,0 +1,4 @@
+pub mod Expanded
+pub mod SpellParts
+pub mod Joins
+pub mod LawsToCite

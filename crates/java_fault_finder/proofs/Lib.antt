@@ -1,0 +1,4 @@
+pub mod Runs
+pub mod Passing
+pub mod Doing
+pub mod Spelled

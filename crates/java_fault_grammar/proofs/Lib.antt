@@ -1,0 +1,12 @@
+pub mod Widening
+pub mod Endings
+pub mod Bodies
+pub mod Files
+pub mod Counts
+pub mod Balance
+pub mod Once
+pub mod Runs
+pub mod Completeness
+pub mod Soundness
+pub mod Faults
+pub mod LawsToCite

@@ -1,0 +1,4 @@
+pub mod Runs
+pub mod Walk
+pub mod Assembled
+pub mod Forms

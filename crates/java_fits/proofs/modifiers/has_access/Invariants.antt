@@ -1,9 +1,0 @@
-use Rattle.std.proofs.Common.{◌≡◌, length}
-use Rattle.java_members.specs.Modifiers as mo
-use Rattle.java_fits.proofs.modifiers.has_access.Given as goal
-
-abbrev pub invariant-loop-first : goal.invariant-loop-first
-invariant-loop-first l = mo.has_access l.rest ≡ mo.has_access l.fn.mods
-
-abbrev pub decreases-loop-first : goal.decreases-loop-first
-decreases-loop-first l = length l.rest

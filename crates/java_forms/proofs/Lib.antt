@@ -1,4 +1,0 @@
-pub mod Runs
-pub mod Again
-pub mod Sound
-pub mod Faults

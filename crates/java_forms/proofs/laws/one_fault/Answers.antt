@@ -1,5 +1,0 @@
-use Rattle.java_forms.proofs.Faults.{one, none}
-use Rattle.java_forms.proofs.laws.one_fault.Goals as goal
-
-pub returns : goal.returns
-returns c = record { one = one; none = none }

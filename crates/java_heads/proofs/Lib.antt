@@ -1,7 +1,0 @@
-pub mod Whole
-pub mod Begins
-pub mod Declared
-pub mod Simple
-pub mod Loops
-pub mod Labels
-pub mod Theorem

@@ -1,5 +1,0 @@
-use Rattle.java_letters.proofs.Utf8.{encoded}
-use Rattle.java_letters.proofs.laws.encoded.Goals as goal
-
-pub returns : goal.returns
-returns c = λ a d n bs. encoded a bs d n

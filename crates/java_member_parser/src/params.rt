@@ -1,0 +1,148 @@
+//! Type parameters.
+
+ghost use Rattle.std.specs.Prelude.{◌≡◌, ◌<◌, ◌+◌, length};
+ghost use Rattle.java_token_cursor.specs.Shown.{shown};
+ghost use Rattle.java_type_parser.specs.Gives.{Gives, Always};
+ghost use Rattle.java_expr_grammar.specs.Reading as r;
+ghost use Rattle.java_member_grammar.specs.Reading as m;
+ghost use Rattle.java_statement_parser.specs.Found.{found};
+ghost use Rattle.java_member_parser.specs.Found.{type_params_found};
+
+use crate::begins::closes;
+use crate::found::TypeParamsFound;
+use j2k_base::NoMemory;
+use java_member_grammar::{JBound, JTypeParam, JTypeParams};
+use java_token_cursor::{Head, Pieces, comma, first};
+use java_tree::{JParam, Keyword, Mark, Position};
+use java_type_parser::{ident, onward, read_type};
+use sqlite_items::Items;
+use std::alloc::Global;
+
+/// `extends` and a type, where they come first.
+pub fn bound<'a>(
+    alloc: Global,
+    pieces: Pieces<'a>,
+    depth: usize,
+) -> Result<Option<(Option<JBound>, Pieces<'a>)>, NoMemory>
+    ensures { Gives found Always (m.bound depth (shown pieces.now)) result }
+{
+    match first(pieces) {
+        Head::Word(Keyword::Extends, at, rest) => {
+            let Some((kind, rest)) = read_type(alloc, rest, depth)? else {
+                return Ok(None);
+            };
+            let kind = kind.tree;
+            Ok(Some((Some(JBound { at, kind }), rest)))
+        }
+        _ => Ok(Some((None, pieces))),
+    }
+}
+
+/// A type parameter with a depth of at most `depth`.
+#[tactic(auto, unfolding(java_member_grammar::specs::Reading::type_param))]
+fn type_param<'a>(
+    alloc: Global,
+    pieces: Pieces<'a>,
+    depth: usize,
+) -> Result<Option<(JTypeParam, Pieces<'a>)>, NoMemory>
+    ensures { Gives found Always (m.type_param depth (shown pieces.now)) result }
+{
+    if depth == 0 {
+        return Ok(None);
+    }
+    let Some((name, rest)) = ident(alloc, pieces)? else {
+        return Ok(None);
+    };
+    let Some((bound, rest)) = bound(alloc, rest, depth - 1)? else {
+        return Ok(None);
+    };
+    let JParam { name, at } = name;
+    Ok(Some((JTypeParam { name, at, bound }, rest)))
+}
+
+/// One or more type parameters.
+#[tactic(auto, using(java_statement_parser::proofs::LawsToCite::lists), unfolding(java_expr_grammar::specs::Reading::some_by))]
+fn some_type_params<'a>(
+    alloc: Global,
+    pieces: Pieces<'a>,
+    depth: usize,
+) -> Result<Option<(TypeParamsFound, Pieces<'a>)>, NoMemory>
+    ensures { Gives type_params_found Always (r.some_by r.comma (m.type_param depth) (shown pieces.now)) result }
+{
+    let Some((param, rest)) = type_param(alloc, pieces, depth)? else {
+        return Ok(None);
+    };
+    let mut items = Items::new(alloc);
+    items.push(param)?;
+    let commas = Items::new(alloc);
+    more_type_params(alloc, TypeParamsFound { items, commas }, rest, depth)
+}
+
+#[tactic(auto, using(java_statement_parser::proofs::LawsToCite::lists), unfolding(java_expr_grammar::specs::Reading::more_by))]
+fn more_type_params<'a>(
+    alloc: Global,
+    mut found: TypeParamsFound,
+    mut pieces: Pieces<'a>,
+    depth: usize,
+) -> Result<Option<(TypeParamsFound, Pieces<'a>)>, NoMemory>
+    ensures { Gives type_params_found Always (r.more_by r.comma (m.type_param depth) (length pieces.entry.now) found.items found.commas (shown pieces.entry.now)) result }
+{
+    for _turn in 0..pieces.len() {
+        let Some((at, rest)) = comma(pieces) else {
+            return Ok(Some((found, pieces)));
+        };
+        let Some((next, rest)) = type_param(alloc, rest, depth)? else {
+            return Ok(None);
+        };
+        found.items.push(next)?;
+        found.commas.push(at)?;
+        pieces = onward(rest);
+    }
+    Ok(Some((found, pieces)))
+}
+
+/// Type parameters behind their `<`.
+#[tactic(auto, unfolding(java_member_grammar::specs::Reading::type_params_of))]
+fn type_params_of<'a>(
+    alloc: Global,
+    opens: Position,
+    pieces: Pieces<'a>,
+    depth: usize,
+) -> Result<Option<(JTypeParams, Pieces<'a>)>, NoMemory>
+    ensures { Gives found Always (m.type_params_of depth opens (shown pieces.now)) result }
+{
+    let Some((params, rest)) = some_type_params(alloc, pieces, depth)? else {
+        return Ok(None);
+    };
+    let Some(((is_joined, close), rest)) = closes(rest) else {
+        return Ok(None);
+    };
+    let TypeParamsFound { items, commas } = params;
+    let params = JTypeParams {
+        opens,
+        items,
+        commas,
+        is_joined,
+        closes: close,
+    };
+    Ok(Some((params, rest)))
+}
+
+/// Type parameters, where they come first.
+pub fn type_params<'a>(
+    alloc: Global,
+    pieces: Pieces<'a>,
+    depth: usize,
+) -> Result<Option<(Option<JTypeParams>, Pieces<'a>)>, NoMemory>
+    ensures { Gives found Always (m.type_params depth (shown pieces.now)) result }
+{
+    match first(pieces) {
+        Head::Mark(Mark::Less, opens, rest) => {
+            let Some((params, rest)) = type_params_of(alloc, opens, rest, depth)? else {
+                return Ok(None);
+            };
+            Ok(Some((Some(params), rest)))
+        }
+        _ => Ok(Some((None, pieces))),
+    }
+}

@@ -1,5 +1,0 @@
-use Rattle.java_members.proofs.Theorem.{type_head_one}
-use Rattle.java_members.proofs.laws.one_type_head.Goals as goal
-
-pub returns : goal.returns
-returns c = type_head_one

@@ -1,0 +1,9 @@
+use Rattle.std.proofs.Common.{◌≡◌, length}
+use Rattle.java_member_grammar.specs.Modifiers as mo
+use Rattle.java_modifier_rules.proofs.modifiers.has.Given as goal
+
+abbrev pub invariant-loop-first : goal.invariant-loop-first
+invariant-loop-first l = mo.has (mo.number l.kind) l.rest ≡ mo.has (mo.number l.kind) l.fn.mods
+
+abbrev pub decreases-loop-first : goal.decreases-loop-first
+decreases-loop-first l = length l.rest

@@ -1,6 +1,0 @@
-use Rattle.java_pieces.specs.Shown.{shown}
-use Rattle.java_openings.proofs.Spelled.{constants_given}
-use Rattle.java_openings.proofs.heads.constants.Goals as goal
-
-pub returns-clause-spelled : goal.returns-clause-spelled
-returns-clause-spelled c = constants_given c.args.depth (shown c.args.pieces.now) c.constants_read.result c.constants_read.ensures

@@ -1,6 +1,0 @@
-use Rattle.java_pieces.specs.Shown.{shown}
-use Rattle.java_openings.proofs.Spelled.{import_given}
-use Rattle.java_openings.proofs.heads.import_line.Goals as goal
-
-pub returns-clause-spelled : goal.returns-clause-spelled
-returns-clause-spelled c = import_given (shown c.args.pieces.now) c.import_read.result c.import_read.ensures

@@ -1,3 +1,0 @@
-pub mod Braces
-pub mod BodySteps
-pub mod NothingLost

@@ -1,6 +1,0 @@
-pub mod Seen
-pub mod Tools
-pub mod Parts
-pub mod ExprParts
-pub mod TypeTexts
-pub mod ExprTexts

@@ -1,5 +1,0 @@
-use Rattle.java_runs.proofs.Files.{spelled_assembled, spelled_read}
-use Rattle.java_runs.proofs.laws.assembled.Goals as goal
-
-pub returns : goal.returns
-returns c = record { whole = spelled_assembled; read = spelled_read }

@@ -1,0 +1,4 @@
+pub mod Rules
+pub mod Spelled
+pub mod Basic
+pub mod LawsToCite

@@ -1,0 +1,53 @@
+-- What the readers of heads answer, seen as reading gives it.
+use Rattle.std.specs.Prelude.{ℕ, Bool, true, false, List, [], ◌∷◌, Option, Some, None}
+use Rattle.std.specs.Borrow.{Bor}
+use Rattle.java_tree.specs.declared.tokens.Position.{Position}
+use Rattle.java_tree.specs.declared.tokens.Keyword.TheVariants as w
+use Rattle.java_tree.specs.Seen.{Token, Tokens}
+use Rattle.java_tree.specs.Trees.{init_level}
+use Rattle.java_tree.specs.declared.exprs.JExpr.{JExpr}
+use Rattle.java_expr_grammar.specs.Reading.{Reader, Listed, ◌>>=◌, read}
+use Rattle.java_token_cursor.specs.declared.piece.Piece.{Piece}
+use Rattle.java_token_cursor.specs.Shown.{shown}
+use Rattle.java_exprs.specs.declared.found.ExprFound.{ExprFound}
+use Rattle.java_statement_grammar.specs.declared.declarations.JValue.{JValue}
+use Rattle.java_statement_grammar.specs.declared.declarations.JDeclarator.{JDeclarator}
+use Rattle.java_statement_parser.specs.declared.found.NamesFound.{NamesFound}
+use Rattle.java_statement_parser.specs.declared.found.StepsFound.{StepsFound}
+use Rattle.java_statement_parser.specs.declared.found.ArgsFound.{ArgsFound}
+
+-- the one that has the property, or None where none has it
+abbrev pub TheOne : {A : Type 0} → (A → Type 0) → Option A → Type 0
+TheOne {A} P None = (x : A) → ¬ (P x)
+TheOne P (Some x) = P x
+
+abbrev pub same : {A : Type 0} → A → A
+same x = x
+
+abbrev pub found : {A : Type 0} → A × Bor (List Piece) → A × Tokens
+found x = (x.0, shown x.1.now)
+
+abbrev pub tree_found : ExprFound → JExpr
+tree_found x = x.tree
+
+abbrev pub names_found : NamesFound × Bor (List Piece) → Listed JDeclarator × Tokens
+names_found x = ((x.0.items, x.0.commas), shown x.1.now)
+
+abbrev pub steps_found : StepsFound × Bor (List Piece) → Listed JExpr × Tokens
+steps_found x = ((x.0.items, x.0.commas), shown x.1.now)
+
+abbrev pub args_found : ArgsFound × Bor (List Piece) → (Listed JExpr × Position) × Tokens
+args_found x = (((x.0.items, x.0.commas), x.0.close), shown x.1.now)
+
+-- whether no token is left
+abbrev pub is_end : Tokens → Bool
+is_end [] = true
+is_end (x ∷ rest) = false
+
+-- behind a `=`
+abbrev pub value_at : ℕ → Position → Reader (Option JValue)
+value_at d at ts = read d init_level ts >>= λ x. Some (Some (record { at = at; tree = x.0 }), x.1)
+
+abbrev pub class_word : Reader Position
+class_word (Token.Word w.Class at ∷ rest) = Some (at, rest)
+class_word _ = None

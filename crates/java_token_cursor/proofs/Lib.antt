@@ -1,0 +1,4 @@
+pub mod Braces
+pub mod BodySteps
+pub mod NothingLost
+pub mod LawsToCite

@@ -1,0 +1,10 @@
+use Rattle.std.proofs.Common.{◌≡◌, length, ◌++◌}
+use Rattle.java_token_cursor.specs.Shown.{shown}
+use Rattle.java_expr_grammar.specs.Reading as r
+use Rattle.java_type_parser.proofs.names.brackets.Given as goal
+
+abbrev pub invariant-loop-next : goal.invariant-loop-next
+invariant-loop-next l = r.brackets (shown l.fn.pieces) ≡ (l.pairs ++ (r.brackets (shown l.pieces)).0, (r.brackets (shown l.pieces)).1)
+
+abbrev pub decreases-loop-next : goal.decreases-loop-next
+decreases-loop-next l = length (shown l.pieces)

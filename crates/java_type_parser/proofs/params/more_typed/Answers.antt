@@ -1,0 +1,16 @@
+use Rattle.std.proofs.Common.{rules, arith}
+use Rattle.std.proofs.lemmas.Grind.{common_steps}
+use Rattle.java_token_cursor.specs.Shown.{shown}
+use Rattle.java_expr_grammar.specs.Reading as r
+use Rattle.java_expr_grammar.proofs.LawsToCite.{one_more, deepest_more}
+use Rattle.java_type_parser.proofs.params.more_typed.Goals as goal
+
+pub loop-turn-preserved : goal.loop-turn-preserved
+unfolding r.more_by
+loop-turn-preserved c =
+    let e = one_more (λ n. r.more_by r.comma (r.typed_read c.args.depth) n c.loop-turn.found.items c.loop-turn.found.commas (shown c.loop-turn.pieces.now)) _ c.loop-turn._turn c.loop-turn-test.true c.loop-turn.invariant.same in
+    record {
+      same = first_of (search rules, grind (arith, common_steps));
+      deepest = grind (arith, common_steps, deepest_more);
+      within = grind (arith, common_steps);
+    }

@@ -1,0 +1,11 @@
+use Rattle.std.proofs.Common.{◌≡◌, ◌≤◌, ◌-◌, length}
+use Rattle.java_token_cursor.specs.Shown.{shown}
+use Rattle.java_unit_grammar.specs.Reading as r
+use Rattle.java_body_parser.specs.Asks.{onto}
+use Rattle.java_unit_parser.proofs.lists.types.Given as goal
+
+abbrev pub invariant-loop-turn : goal.invariant-loop-turn
+invariant-loop-turn l = record {
+  same : r.many r.is_end (r.file_read l.types) (length (shown l.fn.pieces)) (shown l.fn.pieces) ≡ onto l.items (r.many r.is_end (r.file_read l.types) (l._turn-end - l._turn) (shown l.pieces));
+  shorter : length l.pieces ≤ length l.fn.pieces;
+}

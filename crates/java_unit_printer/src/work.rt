@@ -1,0 +1,20 @@
+// What is still to be written of a unit.
+
+use java_expr_printer::Written;
+use java_unit_grammar::{JBody, JCase, JCaseGroup, JCatch, JMember, JStatement};
+use sqlite_items::{Boxed, Items};
+
+/// A part that is still to be written. The tokens of a text stand from the last to the first, with the bodies of those
+/// of them that have one.
+#[derive(Drop)]
+pub enum Work<'a> {
+    Token(Written),
+    Text(Vec<Written>, &'a [JBody]),
+    Statement(&'a Boxed<JStatement>),
+    /// Statements from one of the number on.
+    Statements(&'a Items<JStatement>, usize),
+    Members(&'a [JMember]),
+    Groups(&'a [JCaseGroup]),
+    Cases(&'a [JCase]),
+    Catches(&'a [JCatch]),
+}

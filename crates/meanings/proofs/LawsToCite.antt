@@ -1,0 +1,4 @@
+-- What other crates cite of this one's proofs.
+pub use Rattle.meanings.proofs.Headline.{same_steps}
+pub use Rattle.meanings.proofs.Spelling.{spells_one}
+pub use Rattle.meanings.proofs.Typed.{spelling_is_kept, types_are_kept}
