@@ -47,7 +47,7 @@ abbrev pub IsParams : ℕ → Params → Type 0
 IsParams d x = (x.depth ≡ params_depth x.tree) × (x.depth ≤ max d 1)
 
 abbrev pub IsMade : ℕ → Made → Type 0
-IsMade d x = (x.depth ≡ created_depth x.tree) × (x.depth ≤ max d 1)
+IsMade d x = (x.depth ≡ created_depth x.tree) × (x.depth ≤ d)
 
 pub record Nests (d : ℕ) (pre : Global → Bor (List Piece) → ℕ → ℕ → Type 0)
     (post : Global → Bor (List Piece) → ℕ → ℕ → Result (Option (ExprFound × Bor (List Piece))) NoMemory → Type 0) : Type 0 where

@@ -85,7 +85,7 @@ impl<
         let Some((lp, rest)) = open_round(rest) else {
             return Ok(None);
         };
-        self.new_args(at, Made { tree, depth: 1 }, lp, rest)
+        self.new_args(at, Made { tree, depth: 0 }, lp, rest)
     }
 
     #[tactic(auto, using(java_expr_grammar::proofs::LawsToCite::expr_parts), unfolding(java_expr_grammar::specs::Reading::new_sized))]
@@ -98,7 +98,7 @@ impl<
     ) -> Result<Option<(ExprFound, Pieces<'a>)>, NoMemory>
         requires nests { Nests self.now.depth (F.pre self.now.read) (F.post self.now.read) }
         requires room { self.now.depth < usize.MAX }
-        requires fits { TypeFits self.now.depth (of, pieces) }
+        requires fits { TypeFits (self.now.depth + 1) (of, pieces) }
         ensures { Gives expr_found (OperandFits self.now.depth) (g.new_sized self.now.depth at of.tree lb (shown pieces.now)) result }
     {
         let Some((size, rest)) = self.sub(pieces, 1)? else {
@@ -109,7 +109,7 @@ impl<
         };
         let (more, rest) = brackets(self.alloc, rest)?;
         let TypeFound { tree: of, depth } = of;
-        let depth = larger(depth, size.depth) + 1;
+        let depth = larger(depth.saturating_sub(1), size.depth) + 1;
         let tree = JExpr::NewArray(at, of, lb, size.tree, rb, more);
         let tree = Boxed::new(self.alloc, tree)?;
         Ok(Some((ExprFound { tree, depth }, rest)))
@@ -125,7 +125,7 @@ impl<
     ) -> Result<Option<(ExprFound, Pieces<'a>)>, NoMemory>
         requires nests { Nests self.now.depth (F.pre self.now.read) (F.post self.now.read) }
         requires room { self.now.depth < usize.MAX }
-        requires fits { TypeFits self.now.depth (of, pieces) }
+        requires fits { TypeFits (self.now.depth + 1) (of, pieces) }
         ensures { Gives expr_found (OperandFits self.now.depth) (g.new_filled self.now.depth at of.tree pairs (shown pieces.now)) result }
     {
         let Some((lc, rest)) = open_curly(pieces) else {
@@ -143,7 +143,7 @@ impl<
             deepest,
         } = values;
         let TypeFound { tree: of, depth } = of;
-        let depth = larger(depth, deepest) + 1;
+        let depth = larger(depth.saturating_sub(1), deepest) + 1;
         let tree = JExpr::NewFilled(at, of, pairs, lc, items, commas, more, rc);
         let tree = Boxed::new(self.alloc, tree)?;
         Ok(Some((ExprFound { tree, depth }, rest)))
@@ -160,7 +160,7 @@ impl<
     ) -> Result<Option<(ExprFound, Pieces<'a>)>, NoMemory>
         requires nests { Nests self.now.depth (F.pre self.now.read) (F.post self.now.read) }
         requires room { self.now.depth < usize.MAX }
-        requires fits { TypeFits self.now.depth (of, pieces) }
+        requires fits { TypeFits (self.now.depth + 1) (of, pieces) }
         ensures { Gives expr_found (OperandFits self.now.depth) (g.new_array self.now.depth at of.tree lb (shown pieces.now)) result }
     {
         match first(pieces) {
@@ -187,7 +187,7 @@ impl<
     ) -> Result<Option<(ExprFound, Pieces<'a>)>, NoMemory>
         requires nests { Nests self.now.depth (F.pre self.now.read) (F.post self.now.read) }
         requires room { self.now.depth < usize.MAX }
-        requires fits { TypeFits self.now.depth (of, pieces) }
+        requires fits { TypeFits (self.now.depth + 1) (of, pieces) }
         ensures { Gives expr_found (OperandFits self.now.depth) (new_class self.now.depth at of.tree lp (shown pieces.now)) result }
     {
         if !is_class(&of.tree) {
@@ -196,7 +196,7 @@ impl<
         let TypeFound { tree, depth } = of;
         let made = Made {
             tree: JCreated::Type(tree),
-            depth,
+            depth: depth.saturating_sub(1),
         };
         self.new_args(at, made, lp, pieces)
     }
@@ -211,7 +211,7 @@ impl<
     ) -> Result<Option<(ExprFound, Pieces<'a>)>, NoMemory>
         requires nests { Nests self.now.depth (F.pre self.now.read) (F.post self.now.read) }
         requires room { self.now.depth < usize.MAX }
-        requires fits { TypeFits self.now.depth (of, pieces) }
+        requires fits { TypeFits (self.now.depth + 1) (of, pieces) }
         ensures { Gives expr_found (OperandFits self.now.depth) (g.new_of self.now.depth at of.tree (shown pieces.now)) result }
     {
         match first(pieces) {
@@ -235,7 +235,7 @@ impl<
         if begins_inferred(pieces) {
             return self.new_inferred(at, pieces);
         }
-        let Some((of, rest)) = read_base(self.alloc, pieces, self.depth)? else {
+        let Some((of, rest)) = read_base(self.alloc, pieces, self.depth + 1)? else {
             return Ok(None);
         };
         self.new_of(at, of, rest)
