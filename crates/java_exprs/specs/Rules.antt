@@ -1,5 +1,5 @@
 -- The rules of the reader at a depth of its parts.
-use Rattle.std.specs.Prelude.{ℕ, ◌+◌, List}
+use Rattle.std.specs.Prelude.{suc, ℕ, ◌+◌, List}
 use Rattle.java_tree.specs.declared.tokens.Position.{Position}
 use Rattle.java_tree.specs.declared.tokens.Mark.{Mark}
 use Rattle.java_tree.specs.declared.tokens.Keyword.{Keyword}

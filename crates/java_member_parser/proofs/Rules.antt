@@ -1,5 +1,5 @@
 -- Reading, a step at a time.
-use Rattle.std.proofs.Common.{◌≡◌, ℕ, true, false, if◌then◌else◌, [], ◌∷◌, Option, Some, None, refl}
+use Rattle.std.proofs.Common.{suc, ◌≡◌, ℕ, true, false, if◌then◌else◌, [], ◌∷◌, Option, Some, None, refl}
 use Rattle.java_tree.specs.declared.tokens.Position.{Position}
 use Rattle.java_tree.specs.declared.tokens.Mark.TheVariants as mark
 use Rattle.java_tree.specs.declared.tokens.Keyword.TheVariants as w
