@@ -1,5 +1,5 @@
 use Rattle.java_token_cursor.specs.Shown.{shown}
-use Rattle.std.proofs.Common.{◌∙◌}
+use Rattle.std.proofs.Common.{◌+◌, ◌∙◌}
 use Rattle.java_expr_grammar.specs.Reading as r
 use Rattle.java_expr_grammar.proofs.LawsToCite.{one_more}
 use Rattle.java_exprs.proofs.Turns.{done_turn, longer_turn}
