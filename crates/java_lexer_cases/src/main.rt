@@ -15,7 +15,7 @@ use std::io;
 use tokens::{put_places, put_tokens};
 
 fn put_fault(fault: &Fault, out: &mut String) -> Result<(), NoMemory> {
-    let place = fault.place;
+    let place = &fault.place;
     write!(
         out,
         "{:?}{} {} {}:{}",
