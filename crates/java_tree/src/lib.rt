@@ -13,6 +13,3 @@ pub use exprs::{
 };
 pub use tokens::{Comment, Comments, JToken, JTokens, Keyword, Mark, Position, TokenKind, Tokens};
 pub use types::{JBrackets, JDotted, JQualified, JType, Primitive};
-
-#[cfg(test)]
-mod tests;
