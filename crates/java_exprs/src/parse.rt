@@ -10,6 +10,7 @@ use crate::climb::read;
 use j2k_base::NoMemory;
 use java_token_cursor::{Pieces, pieces};
 use java_tree::{JExpr, Tokens};
+use java_type_parser::let_go;
 use std::alloc::Global;
 
 const MAX_DEPTH: usize = 200;
@@ -25,6 +26,7 @@ fn parse_pieces(alloc: Global, pieces: Pieces<'_>) -> Result<Option<JExpr>, NoMe
     if rest.is_empty() {
         Ok(Some(found.tree.into_inner()))
     } else {
+        let_go(found);
         Ok(None)
     }
 }
