@@ -16,7 +16,7 @@ use java_token_cursor::{Head, Pieces, braces_end, close_square, first, open_curl
 use java_tree::{JBrackets, JCreated, JExpr, Mark, Position};
 use java_type_parser::{
     TypeFound, begins_inferred, brackets, found_or_let_go, inferred, is_class, larger, let_go,
-    or_let_go, read_base,
+    read_base,
 };
 use sqlite_items::{Boxed, Items};
 use std::alloc::Global;
@@ -109,7 +109,11 @@ impl<
             let_go(size);
             return Ok(None);
         };
-        let (more, rest) = or_let_go!(brackets(self.alloc, rest), of, size);
+        let Ok((more, rest)) = brackets(self.alloc, rest) else {
+            let_go(of);
+            let_go(size);
+            return Err(NoMemory);
+        };
         let TypeFound { tree: of, depth } = of;
         let depth = larger(depth.saturating_sub(1), size.depth) + 1;
         let tree = JExpr::NewArray(at, of, lb, size.tree, rb, more);
@@ -174,7 +178,10 @@ impl<
                     opens: lb,
                     closes: rb,
                 };
-                let (pairs, rest) = or_let_go!(pairs_from(self.alloc, pair, rest), of);
+                let Ok((pairs, rest)) = pairs_from(self.alloc, pair, rest) else {
+                    let_go(of);
+                    return Err(NoMemory);
+                };
                 self.new_filled(at, of, pairs, rest)
             }
             _ => self.new_sized(at, of, lb, pieces),
