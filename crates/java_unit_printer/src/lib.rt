@@ -22,6 +22,3 @@ use texts::{
 };
 pub use units::spell;
 use work::Work;
-
-#[cfg(test)]
-mod tests;
