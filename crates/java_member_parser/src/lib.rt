@@ -5,7 +5,6 @@
 mod begins;
 mod enums;
 mod files;
-mod found;
 mod heads;
 mod members;
 mod modifiers;
