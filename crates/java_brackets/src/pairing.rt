@@ -1,8 +1,8 @@
 //! The brackets of a file, and their partners.
 
-ghost use Rattle.std.specs.Prelude.{◌≡◌, ◌<◌, ◌^◌, suc, IfOk, IfSome, length, slice_index};
+ghost use Rattle.std.specs.Prelude.{◌≡◌, ◌<◌, ◌^◌, suc, None, IfOk, IfSome, length, slice_index};
 ghost use Rattle.java_tree.specs.Seen.{seen};
-ghost use Rattle.java_brackets.specs.Brackets.{IsPaired};
+ghost use Rattle.java_brackets.specs.Brackets.{IsFirstFlaw, IsPaired, Partnered};
 ghost use Rattle.java_brackets.specs.Steps.{IsPairing, noted};
 
 use crate::flaws::Flawed;
@@ -95,7 +95,7 @@ impl Pairing {
     }
 }
 
-fn paired(alloc: Global, tokens: &[JToken]) -> Result<Pairing, NoMemory>
+fn pairing_of(alloc: Global, tokens: &[JToken]) -> Result<Pairing, NoMemory>
     requires { length tokens.now < 2 ^ 32 }
     ensures { IfOk result (λ p. IsPairing (seen tokens.now) (length tokens.now) p) }
 {
@@ -109,6 +109,18 @@ fn paired(alloc: Global, tokens: &[JToken]) -> Result<Pairing, NoMemory>
     Ok(pairing)
 }
 
+/// The partners of a file's brackets, none of which is at fault.
+fn partners_of(alloc: Global, tokens: &[JToken]) -> Result<Partners, NoMemory>
+    requires few { length tokens.now < 2 ^ 32 }
+    requires whole { IsFirstFlaw (seen tokens.now) None }
+    ensures { IfOk result (λ p. Partnered (seen tokens.now) p) }
+{
+    let pairing = pairing_of(alloc, tokens)?;
+    Ok(Partners {
+        numbers: pairing.partners,
+    })
+}
+
 /// The partners of a file's brackets, or the first bracket at fault. A bracket pairs with the
 /// innermost one that is open, where that has its form. At fault is one with no partner, and the
 /// one that opens where 200 are open.
@@ -116,11 +128,8 @@ pub fn pairs(alloc: Global, tokens: &[JToken]) -> Result<Paired, NoMemory>
     requires { length tokens.now < 2 ^ 32 }
     ensures { IfOk result (λ p. IsPaired (seen tokens.now) p) }
 {
-    if let Some(flawed) = first_flaw(alloc, tokens)? {
-        return Ok(Paired::Flawed(flawed));
+    match first_flaw(alloc, tokens)? {
+        Some(flawed) => Ok(Paired::Flawed(flawed)),
+        None => Ok(Paired::Pairs(partners_of(alloc, tokens)?)),
     }
-    let pairing = paired(alloc, tokens)?;
-    Ok(Paired::Pairs(Partners {
-        numbers: pairing.partners,
-    }))
 }
