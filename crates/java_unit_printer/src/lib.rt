@@ -21,7 +21,7 @@ use texts::{
     type_text, typed_text,
 };
 pub use units::spell;
-use work::Work;
+use work::{Work, let_go};
 
 #[cfg(test)]
 mod tests;
