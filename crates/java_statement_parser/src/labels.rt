@@ -8,14 +8,13 @@ ghost use Rattle.java_statement_grammar.specs.Reading as h;
 ghost use Rattle.java_statement_parser.specs.Found.{class_word, found, same};
 
 use crate::begins::at_end;
-use crate::exits::let_go;
 use crate::parts::whole;
 use j2k_base::NoMemory;
 use java_exprs::read;
 use java_statement_grammar::{JLock, JSwitchLabel};
 use java_token_cursor::{Head, Pieces, colon, dot, first};
 use java_tree::{JQualified, Keyword, Position};
-use java_type_parser::qualified;
+use java_type_parser::{let_go, qualified};
 use std::alloc::Global;
 
 fn class_word<'a>(pieces: Pieces<'a>) -> Option<(Position, Pieces<'a>)>
