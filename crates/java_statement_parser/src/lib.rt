@@ -15,6 +15,3 @@ pub use declarations::declaration_of;
 pub use found::{ArgsFound, ListFound};
 pub use heads::{for_head, lock, simple, switch_label};
 pub use parts::args_read;
-
-#[cfg(test)]
-mod tests;
