@@ -4,7 +4,6 @@ ghost use Rattle.std.specs.Prelude.{◌≡◌};
 ghost use Rattle.java_token_cursor.specs.Heads.{Finds};
 ghost use Rattle.java_token_cursor.specs.Shown.{shown};
 ghost use Rattle.java_type_parser.specs.Gives.{Gives, Always};
-ghost use Rattle.java_expr_grammar.specs.Reading as r;
 ghost use Rattle.java_statement_grammar.specs.Reading as h;
 ghost use Rattle.java_statement_parser.specs.Found.{class_word, found, same};
 
@@ -27,15 +26,6 @@ fn class_word<'a>(pieces: Pieces<'a>) -> Option<(Position, Pieces<'a>)>
     }
 }
 
-/// The position of `class`, where it is what is left.
-#[tactic(auto, using(crate::proofs::Rules::ends))]
-fn only_class<'a>(pieces: Pieces<'a>) -> Option<Position>
-    ensures { result ≡ r.whole (class_word (shown pieces.now)) }
-{
-    let (at, rest) = class_word(pieces)?;
-    if at_end(rest) { Some(at) } else { None }
-}
-
 /// The class with that name, where a dot and `class` are what is left.
 #[tactic(auto, using(crate::proofs::Rules::locks))]
 fn class_of<'a>(name: JQualified, pieces: Pieces<'a>) -> Option<JLock>
@@ -45,12 +35,15 @@ fn class_of<'a>(name: JQualified, pieces: Pieces<'a>) -> Option<JLock>
         let_go(name);
         return None;
     };
-    match only_class(rest) {
-        Some(at) => Some(JLock::Class(name, dot, at)),
-        None => {
-            let_go(name);
-            None
-        }
+    let Some((at, rest)) = class_word(rest) else {
+        let_go(name);
+        return None;
+    };
+    if at_end(rest) {
+        Some(JLock::Class(name, dot, at))
+    } else {
+        let_go(name);
+        None
     }
 }
 
