@@ -8,6 +8,7 @@
 //! - `says`: the same without the files.
 //! - `fails`: over a disk and an output that fail where the parts say it.
 //! - `real`: over the file system. The answer has the files that the row shows.
+//! - `calls`: calls of the file system alone, with a file as `PATH=BYTES`.
 #![tactic(auto)]
 
 mod memory;
@@ -38,6 +39,7 @@ fn answer<R: Files + AllocGlobal>(
         "says" => memory::run_steady(alloc, text, false, out),
         "fails" => memory::run_failing(alloc, text, out),
         "real" => real::run_real(rt, text, out),
+        "calls" => real::put_calls(rt, text, out),
         _ => Ok(out.push_str("no such word")?),
     }
 }

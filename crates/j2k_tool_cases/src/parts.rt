@@ -54,12 +54,7 @@ pub fn files_of(alloc: Global, text: &[u8]) -> Result<FileMap, NoMemory> {
     Ok(files)
 }
 
-fn put_file(
-    alloc: Global,
-    files: &mut FileMap,
-    path: &str,
-    bytes: &[u8],
-) -> Result<(), NoMemory> {
+fn put_file(alloc: Global, files: &mut FileMap, path: &str, bytes: &[u8]) -> Result<(), NoMemory> {
     let path = Text::from_str(alloc, path)?;
     files.insert_copy(&path, bytes)
 }
