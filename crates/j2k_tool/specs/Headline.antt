@@ -7,7 +7,7 @@ use Rattle.meanings.specs.KSpells.{KSpells, HasNoKeyword}
 use Rattle.meanings.specs.SameSteps.{SameSteps}
 use Rattle.meanings.specs.Static.{KTyped}
 use Rattle.j2k_tool.specs.declared.files.TakenFile.{TakenFile}
-use Rattle.j2k_tool.specs.declared.texts.TheConstants.{REPORT_FILE}
+use Rattle.j2k_tool.specs.Texts.{report_name}
 use Rattle.j2k_tool.specs.Paths.{kotlin_path}
 use Rattle.j2k_tool.specs.Projects.{IsProject, trees_of}
 use Rattle.j2k_tool.specs.Report.{Choices, ReportText}
@@ -40,6 +40,6 @@ pub record Headline (words : List (List ℕ)) (files : Files) (new : Option File
   pub one_java : (other : List TakenFile) → IsProject src files other → other ≡ java
   pub kotlin : List KFile
   pub written : List (List ℕ × List ℕ)
-  pub made : new ≡ with_files (Some files) (written ++ (in_folder dst REPORT_FILE.now, ReportText (length java) (flat_map Choices java)) ∷ [])
+  pub made : new ≡ with_files (Some files) (written ++ (in_folder dst report_name, ReportText (length java) (flat_map Choices java)) ∷ [])
   pub spelled : AreWritten dst java kotlin written
   pub steps : SameSteps (trees_of java) kotlin
