@@ -9,6 +9,3 @@ mod stack;
 pub use flaws::{Flaw, Flawed};
 pub use laws::{one_first_flaw, one_partner, pairs_match, pairs_nest};
 pub use pairing::{Paired, Partners, pairs};
-
-#[cfg(test)]
-mod tests;

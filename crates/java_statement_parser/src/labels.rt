@@ -8,6 +8,7 @@ ghost use Rattle.java_statement_grammar.specs.Reading as h;
 ghost use Rattle.java_statement_parser.specs.Found.{class_word, found, same};
 
 use crate::begins::at_end;
+use crate::exits::let_go;
 use crate::parts::whole;
 use j2k_base::NoMemory;
 use java_exprs::read;
@@ -31,11 +32,18 @@ fn class_word<'a>(pieces: Pieces<'a>) -> Option<(Position, Pieces<'a>)>
 fn class_of<'a>(name: JQualified, pieces: Pieces<'a>) -> Option<JLock>
     ensures { result ≡ h.class_of name (shown pieces.now) }
 {
-    let (dot, rest) = dot(pieces)?;
-    let (at, rest) = class_word(rest)?;
+    let Some((dot, rest)) = dot(pieces) else {
+        let_go(name);
+        return None;
+    };
+    let Some((at, rest)) = class_word(rest) else {
+        let_go(name);
+        return None;
+    };
     if at_end(rest) {
         Some(JLock::Class(name, dot, at))
     } else {
+        let_go(name);
         None
     }
 }
@@ -84,6 +92,7 @@ fn case_of<'a>(
         return Ok(None);
     };
     let Some((end, rest)) = colon(rest) else {
+        let_go(value);
         return Ok(None);
     };
     let value = value.tree.into_inner();
@@ -127,6 +136,7 @@ pub fn switch_read<'a>(
     if at_end(rest) {
         Ok(Some(label))
     } else {
+        let_go(label);
         Ok(None)
     }
 }

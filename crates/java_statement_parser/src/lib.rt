@@ -3,6 +3,7 @@
 
 mod begins;
 mod declarations;
+mod exits;
 mod found;
 mod heads;
 mod labels;
@@ -10,10 +11,9 @@ mod loops;
 mod parts;
 mod statements;
 
+pub use begins::{at_end, semicolon};
 pub use declarations::declaration_of;
-pub use found::ArgsFound;
+pub use exits::let_go;
+pub use found::{ArgsFound, ListFound};
 pub use heads::{for_head, lock, simple, switch_label};
 pub use parts::args_read;
-
-#[cfg(test)]
-mod tests;

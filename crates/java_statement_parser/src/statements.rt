@@ -11,6 +11,7 @@ ghost use Rattle.java_statement_parser.specs.Jumps.{break_read, continue_read};
 
 use crate::begins::{at_end, begins_declaration};
 use crate::declarations::declaration_read;
+use crate::exits::let_go;
 use crate::found::ArgsFound;
 use crate::parts::{args_read, statement_read, unboxed, value_of, whole};
 use j2k_base::{Name, NoMemory};
@@ -33,6 +34,7 @@ fn expression<'a>(
     if at_end(rest) {
         Ok(Some(JSimple::Expression(found.tree.into_inner())))
     } else {
+        let_go(found);
         Ok(None)
     }
 }
@@ -51,6 +53,7 @@ fn declaration<'a>(
     if at_end(rest) {
         Ok(Some(JSimple::Declaration(declared)))
     } else {
+        let_go(declared);
         Ok(None)
     }
 }
@@ -163,6 +166,7 @@ fn this_call<'a>(
         return Ok(None);
     };
     if !at_end(rest) {
+        let_go(args);
         return Ok(None);
     }
     let ArgsFound {
@@ -187,6 +191,7 @@ fn super_call<'a>(
         return Ok(None);
     };
     if !at_end(rest) {
+        let_go(args);
         return Ok(None);
     }
     let ArgsFound {

@@ -22,6 +22,3 @@ use texts::{
 };
 pub use units::spell;
 use work::{Work, let_go};
-
-#[cfg(test)]
-mod tests;
