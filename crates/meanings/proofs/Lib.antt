@@ -1,7 +1,7 @@
 mod Worked
 mod WorkedMachine
 pub mod Layers
-pub mod Calm
+pub mod Starts
 pub mod RunLaws
 pub mod SameText
 pub mod Headline

@@ -2,6 +2,8 @@ pub mod Levels
 pub mod Convert
 pub mod KText
 pub mod Values
+pub mod Classes
+pub mod Operators
 pub mod Outcome
 pub mod Machine
 pub mod Program

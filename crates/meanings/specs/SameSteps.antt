@@ -3,27 +3,39 @@ use Rattle.std.specs.Prelude.{◌≡◌, ◌⊎◌, ℕ, List, [], ◌∷◌, fi
 use Rattle.meanings.specs.declared.java.JFile.{JFile}
 use Rattle.meanings.specs.declared.kotlin.KFile.{KFile}
 use Rattle.meanings.specs.Values.{Name}
-use Rattle.meanings.specs.Entries.{Entry, Input, run_of}
+use Rattle.meanings.specs.Entries.{Takes, Strings, Entry, Input, count_of, Fits, run_of}
 use Rattle.meanings.specs.Runs.{Item, NeverTorn}
 use Rattle.meanings.specs.Java.{entry_class, classes_in as java_classes_in, java_program}
 use Rattle.meanings.specs.Kotlin.{classes_in as kotlin_classes_in, kotlin_program}
 
--- the entry points of classes of these names
-abbrev pub AreEntries : List Name → Entry → Type 0
-AreEntries [] entry = ⊥
-AreEntries (class ∷ names) entry = (entry ≡ record { class = class; method = codes "main" }) ⊎ AreEntries names entry
+-- each class of these names has the entry point `main`
+abbrev pub AreMains : List Name → Entry → Type 0
+AreMains [] entry = ⊥
+AreMains (class ∷ names) entry = (entry ≡ record { class = class; method = codes "main"; takes = Strings }) ⊎ AreMains names entry
 
--- the entry points of a project: each class's `public static void main(String[])` (JLS 12.1.4); a class without it has none
-abbrev pub Entries : List JFile → Entry → Type 0
-Entries java = AreEntries (filter_map entry_class (java_classes_in java))
+-- What a configured text names: a method that is static, isn't private and takes values of primitive types and Strings alone (own
+-- rule). The classes of this form have none, since their `main` takes an array.
+abbrev pub IsNamed : List JFile → Name → Entry → Type 0
+IsNamed java text entry = ⊥
 
--- The recorded names: the name in Kotlin of a method of a class. A class and a field keep theirs, and in this form a method does (own rule).
-abbrev pub Renames : List JFile → Name → Name → Name
-Renames java class method = method
+-- the entry points that are configured
+abbrev pub AreConfigured : List JFile → List Name → Entry → Type 0
+AreConfigured java [] entry = ⊥
+AreConfigured java (text ∷ texts) entry = IsNamed java text entry ⊎ AreConfigured java texts entry
+
+-- The entry points of a project: each class's `public static void main(String[])` (JLS 12.1.4), and those that are configured. A class
+-- without `main` has none.
+abbrev pub Entries : List JFile → List Name → Entry → Type 0
+Entries java configured entry = AreMains (filter_map entry_class (java_classes_in java)) entry ⊎ AreConfigured java configured entry
+
+-- The recorded names: the name in Kotlin of a method, by its class, its name and its number of parameters. A class and a field keep
+-- theirs, and in this form a method does (own rule).
+abbrev pub Renames : List JFile → Name → Name → ℕ → Name
+Renames java class method count = method
 
 -- an entry point under the recorded names
 abbrev pub renamed : List JFile → Entry → Entry
-renamed java entry = record { class = entry.class; method = Renames java entry.class entry.method }
+renamed java entry = record entry { method = Renames java entry.class entry.method (count_of entry.takes) }
 
 -- what the Java project does
 abbrev pub JavaRun : List JFile → Entry → Input → List ℕ → ℕ → List Item
@@ -33,7 +45,10 @@ JavaRun java = run_of (java_program (java_classes_in java))
 abbrev pub KotlinRun : List KFile → Entry → Input → List ℕ → ℕ → List Item
 KotlinRun kotlin = run_of (kotlin_program (kotlin_classes_in kotlin))
 
--- For every entry point, input, schedule and bound the Kotlin makes exactly the Java's steps under the recorded names, and Torn never comes.
-pub record SameSteps (java : List JFile) (kotlin : List KFile) : Type 0 where
-  pub same : (entry : Entry) → Entries java entry → (input : Input) (schedule : List ℕ) (n : ℕ) → KotlinRun kotlin (renamed java entry) input schedule n ≡ JavaRun java entry input schedule n
-  pub never_torn : (entry : Entry) → Entries java entry → (input : Input) (schedule : List ℕ) (n : ℕ) → NeverTorn (KotlinRun kotlin (renamed java entry) input schedule n)
+-- For every entry point, fitting input, schedule and bound the Kotlin makes exactly the Java's steps under the recorded names, and
+-- Torn never comes.
+pub record SameSteps (java : List JFile) (configured : List Name) (kotlin : List KFile) : Type 0 where
+  pub same : (entry : Entry) → Entries java configured entry → (input : Input) → Fits entry.takes input.arguments → (schedule : List ℕ) (n : ℕ) →
+      KotlinRun kotlin (renamed java entry) input schedule n ≡ JavaRun java entry input schedule n
+  pub never_torn : (entry : Entry) → Entries java configured entry → (input : Input) → Fits entry.takes input.arguments → (schedule : List ℕ) (n : ℕ) →
+      NeverTorn (KotlinRun kotlin (renamed java entry) input schedule n)

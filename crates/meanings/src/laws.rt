@@ -3,16 +3,19 @@ ghost use Rattle.std.specs.Prelude.{List};
 ghost use Rattle.meanings.specs.declared.java.JClass.{JClass};
 ghost use Rattle.meanings.specs.declared.java.JFile.{JFile};
 ghost use Rattle.meanings.specs.declared.kotlin.KClass.{KClass};
+ghost use Rattle.meanings.specs.Values.{Name};
 ghost use Rattle.meanings.specs.Convert.{files_of};
 ghost use Rattle.meanings.specs.Java.{java_program};
 ghost use Rattle.meanings.specs.Kotlin.{kotlin_program};
+ghost use Rattle.meanings.specs.World.{World};
+ghost use Rattle.meanings.specs.Runs.{Thread};
 ghost use Rattle.meanings.specs.SameSteps.{SameSteps};
 ghost use Rattle.meanings.specs.Laws.{SameIsEqual, SameAtEveryDepth, EqualRuns, MatchingRuns, OnlyStepsChange, ThreadsAgree, OneAnswer, ChangesOnlyWhatItSays, RunsGrow, SpellingIsKept, TypesAreKept};
 ghost use Rattle.meanings.specs.KSpells.{SpellsOne};
 
 /// The Kotlin of a project makes exactly the steps of the project, in every run, and Torn never comes.
 pub fn same_steps()
-    ensures { (files : List JFile) → SameSteps files (files_of files) }
+    ensures { (files : List JFile) (configured : List Name) → SameSteps files configured (files_of files) }
 {}
 
 /// A thread is the same with every larger depth, in both languages.
@@ -21,10 +24,24 @@ pub fn same_at_every_depth()
     ensures kotlin { (classes : List KClass) → SameAtEveryDepth (kotlin_program classes) }
 {}
 
-/// Equal threads, under an invariant that each turn keeps, give equal runs for every schedule; so do matching turns from two worlds.
-pub fn equal_runs()
-    ensures equal { EqualRuns }
-    ensures matching { MatchingRuns }
+/// What holds of a world and the threads of a run.
+pub trait Invariant {
+    ghost holds: { World → List Thread → Type 0 };
+}
+
+/// What relates two worlds and the threads of two runs.
+pub trait Relation {
+    ghost relates: { World → World → List Thread → Type 0 };
+}
+
+/// Equal threads, under an invariant that each turn keeps, give equal runs for every schedule.
+pub fn equal_runs<I: Invariant>()
+    ensures { EqualRuns I.holds }
+{}
+
+/// Matching turns give equal runs, also from two worlds.
+pub fn matching_runs<R: Relation>()
+    ensures { MatchingRuns R.relates }
 {}
 
 /// A step has one answer at most, and a turn that is no step, as a blocked one, changes nothing.
