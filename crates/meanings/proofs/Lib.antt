@@ -1,10 +1,14 @@
 mod Worked
 mod WorkedMachine
+mod WorkedShared
 pub mod Layers
 pub mod Starts
 pub mod RunLaws
 pub mod SameText
 pub mod Headline
+pub mod SameLaws
+pub mod Construction
+pub mod SamePrograms
 pub mod Depth
 pub mod FormDepth
 pub mod SameValues

@@ -8,6 +8,8 @@ pub mod Outcome
 pub mod Machine
 pub mod Program
 pub mod Library
+pub mod Objects
+pub mod Same
 pub mod World
 pub mod Runs
 pub mod Java

@@ -10,6 +10,7 @@ ghost use Rattle.meanings.specs.Kotlin.{kotlin_program};
 ghost use Rattle.meanings.specs.World.{World};
 ghost use Rattle.meanings.specs.Runs.{Thread};
 ghost use Rattle.meanings.specs.SameSteps.{SameSteps};
+ghost use Rattle.meanings.specs.Same.{SameThreadsOf};
 ghost use Rattle.meanings.specs.Laws.{SameIsEqual, SameAtEveryDepth, EqualRuns, MatchingRuns, OnlyStepsChange, ThreadsAgree, OneAnswer, ChangesOnlyWhatItSays, RunsGrow, SpellingIsKept, TypesAreKept};
 ghost use Rattle.meanings.specs.KSpells.{SpellsOne};
 
@@ -33,6 +34,11 @@ pub trait Invariant {
 pub trait Relation {
     ghost relates: { World → World → List Thread → Type 0 };
 }
+
+/// Where the texts of two programs do the same, so do their threads, unless one asks Torn.
+pub fn same_threads()
+    ensures { SameThreadsOf }
+{}
 
 /// Equal threads, under an invariant that each turn keeps, give equal runs for every schedule.
 pub fn equal_runs<I: Invariant>()
