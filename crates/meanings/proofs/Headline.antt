@@ -62,7 +62,7 @@ class_kept : (class : Option JClass) (classes : List JClass) → cons_option (op
 class_kept None classes = refl
 class_kept (Some class) classes = refl
 
-classes_kept : (files : List JFile) → kotlin_classes_in (files_of files) ≡ classes_of (java_classes_in files)
+pub classes_kept : (files : List JFile) → kotlin_classes_in (files_of files) ≡ classes_of (java_classes_in files)
 classes_kept [] = refl
 classes_kept (file ∷ files) =
     ap (cons_option (option_map class_of file.class)) (classes_kept files) ∙ class_kept file.class (java_classes_in files)
@@ -78,7 +78,7 @@ names_kept (class ∷ classes) =
     ∙ ap (cons_option (java_entry_class class)) (names_kept classes)
 
 -- so an entry point is at the same place
-sites_kept : (classes : List JClass) (class method : Name) (count : ℕ) →
+pub sites_kept : (classes : List JClass) (class method : Name) (count : ℕ) →
     main_entry (filter_map kotlin_entry_class (classes_of classes)) class method count ≡ main_entry (filter_map java_entry_class classes) class method count
 sites_kept classes class method count = ap (λ (names : List Name). main_entry names class method count) (names_kept classes)
 

@@ -6,6 +6,7 @@ pub mod Starts
 pub mod RunLaws
 pub mod SameText
 pub mod Headline
+pub mod Entered
 pub mod SameLaws
 pub mod Construction
 pub mod SamePrograms

@@ -1,6 +1,9 @@
 -- The Kotlin of a well typed file is well typed, and its canonical text spells it.
-use Rattle.std.proofs.Common.{◌≡◌, Bool, true, false, List, [], ◌∷◌, Option, Some, None, map, if◌then◌else◌, refl}
+use Rattle.std.proofs.Common.{◌≡◌, Bool, true, false, List, [], ◌∷◌, Option, Some, None, map, if◌then◌else◌, refl, sym, ap, ◌∙◌, subst}
 use Rattle.std.specs.Prelude.{option_map}
+use Rattle.std.specs.List.{cons_option}
+use Rattle.meanings.specs.declared.java.JFile.{JFile}
+use Rattle.meanings.specs.declared.kotlin.KClass.{KClass}
 use Rattle.meanings.specs.declared.java.JExpr.{JExpr, roll-JExpr}
 use Rattle.meanings.specs.declared.java.JExpr.TheOpen.{JExpr-F}
 use Rattle.meanings.specs.declared.kotlin.KExpr.TheOpen.{KExpr-F}
@@ -8,10 +11,10 @@ use Rattle.meanings.specs.declared.java.JStmt.{JStmt}
 use Rattle.meanings.specs.declared.java.JStmt.TheVariants.{Local, Print}
 use Rattle.meanings.specs.declared.java.JMain.{JMain}
 use Rattle.meanings.specs.declared.java.JClass.{JClass}
-use Rattle.meanings.specs.Convert.{expression_of, statement_of, main_of, class_of}
-use Rattle.meanings.specs.Values.{Name, same_name, is_among}
-use Rattle.meanings.specs.Static.{KType, IntType, Static, declared, declared_local, past, with_local, type_of, IsTyped, MainHasTypes, ClassHasTypes, main_static}
-use Rattle.meanings.specs.JTyped.{known_by, Knows, AreTyped, MainIsTyped, ClassIsTyped}
+use Rattle.meanings.specs.Convert.{expression_of, statement_of, main_of, class_of, files_of}
+use Rattle.meanings.specs.Values.{Name, same_name, is_among, Differ}
+use Rattle.meanings.specs.Static.{KType, IntType, Static, declared, declared_local, past, with_local, type_of, IsTyped, MainHasTypes, ClassHasTypes, AllHaveTypes, class_names, main_static}
+use Rattle.meanings.specs.JTyped.{known_by, Knows, AreTyped, MainIsTyped, ClassIsTyped, AllAreTyped, class_names as java_class_names}
 use Rattle.meanings.specs.JNamed.{named_by, level_by as java_level_by, level_of as java_level_of, IsNamed, AreNamed, MainIsNamed, ClassIsNamed}
 use Rattle.meanings.specs.KSpells.{stands_by, level_by, level_of, IsExpression, AreStatements, IsMain, IsClass}
 use Rattle.meanings.specs.Laws.{TypesAreKept, SpellingIsKept}
@@ -64,8 +67,20 @@ class_typed : (class : Option JClass) → ClassIsTyped class → ClassHasTypes (
 class_typed None typed = tt
 class_typed (Some class) typed = main_typed class.name class.main typed
 
+all_typed : (files : List JFile) → AllAreTyped files → AllHaveTypes (files_of files)
+all_typed [] typed = tt
+all_typed (file ∷ files) typed = (class_typed file.class typed.0, all_typed files typed.1)
+
+name_kept : (class : Option JClass) → option_map (λ (class : KClass). class.name) (option_map class_of class) ≡ option_map (λ (class : JClass). class.name) class
+name_kept None = refl
+name_kept (Some class) = refl
+
+names_kept : (files : List JFile) → class_names (files_of files) ≡ java_class_names files
+names_kept [] = refl
+names_kept (file ∷ files) = ap (λ (name : Option Name). cons_option name (class_names (files_of files))) (name_kept file.class) ∙ ap (cons_option (option_map (λ (class : JClass). class.name) file.class)) (names_kept files)
+
 pub types_are_kept : TypesAreKept
-types_are_kept file typed = class_typed file.class typed
+types_are_kept files typed = record { classes = all_typed files typed.classes; names = subst Differ (sym (names_kept files)) typed.names }
 
 -- ---- names, literals and operands
 

@@ -2,7 +2,7 @@
 use Rattle.std.specs.Prelude.{◌≡◌, ◌↔◌, ℕ, zero, suc, ◌+◌, ◌≤◌, Bool, true, false, List, [], ◌∷◌, ◌++◌, length, Some, slice_get, if◌then◌else◌, ◌==◌}
 use Rattle.meanings.specs.declared.java.JFile.{JFile}
 use Rattle.meanings.specs.Values.{ClassName, same_class, Field, Value, same_value, Step, Touch, InitEnd, Alloc, Put, PutStatic, PutElem, Enter, Exit, Print, ReadByte, Lib, Raise, Start as StartStep, End, Answer}
-use Rattle.meanings.specs.Convert.{file_of}
+use Rattle.meanings.specs.Convert.{file_of, files_of}
 use Rattle.meanings.specs.JTyped.{JTyped}
 use Rattle.meanings.specs.JNamed.{JNamed}
 use Rattle.meanings.specs.KSpells.{KSpells}
@@ -18,9 +18,9 @@ SameIsEqual = (v w : Value) → (same_value v w ≡ true) ↔ (v ≡ w)
 
 -- ---- typing
 
--- the Kotlin of a well typed file is well typed
+-- the Kotlin of well typed files is well typed
 abbrev pub TypesAreKept : Type 0
-TypesAreKept = (file : JFile) → JTyped file → KTyped (file_of file)
+TypesAreKept = (files : List JFile) → JTyped files → KTyped (files_of files)
 
 -- the canonical text of the Kotlin of a file spells it
 abbrev pub SpellingIsKept : Type 0

@@ -1,12 +1,18 @@
 -- The headline: the Kotlin makes the Java's steps.
-use Rattle.std.specs.Prelude.{◌≡◌, ◌⊎◌, ℕ, List, [], ◌∷◌, filter_map, codes}
+use Rattle.std.specs.Prelude.{◌≡◌, ◌⊎◌, ℕ, suc, ◌+◌, List, [], ◌∷◌, length, Some, filter_map, codes}
+use Rattle.meanings.specs.declared.java.JMain.{JMain}
+use Rattle.meanings.specs.declared.java.JClass.{JClass}
 use Rattle.meanings.specs.declared.java.JFile.{JFile}
 use Rattle.meanings.specs.declared.kotlin.KFile.{KFile}
-use Rattle.meanings.specs.Values.{Name}
-use Rattle.meanings.specs.Entries.{Takes, Strings, Entry, Input, count_of, Fits, run_of}
+use Rattle.meanings.specs.Values.{Name, Value, Answer}
+use Rattle.meanings.specs.Outcome.{◌>>◌, assign_all}
+use Rattle.meanings.specs.Machine.{apart}
+use Rattle.meanings.specs.Program.{Program, Body, main_site, place, bodies, Enters, Turn, turn}
+use Rattle.meanings.specs.Convert.{main_of}
+use Rattle.meanings.specs.Entries.{Takes, Strings, Entry, Input, count_of, Fits, site_of, run_of}
 use Rattle.meanings.specs.Runs.{Item, NeverTorn}
-use Rattle.meanings.specs.Java.{entry_class, classes_in as java_classes_in, java_program}
-use Rattle.meanings.specs.Kotlin.{classes_in as kotlin_classes_in, kotlin_program}
+use Rattle.meanings.specs.Java.{entry_class, java_main, JavaThread, classes_in as java_classes_in, java_program}
+use Rattle.meanings.specs.Kotlin.{classes_in as kotlin_classes_in, kotlin_main, kotlin_program, KotlinThread}
 
 -- each class of these names has the entry point `main`
 abbrev pub AreMains : List Name → Entry → Type 0
@@ -52,3 +58,32 @@ pub record SameSteps (java : List JFile) (configured : List Name) (kotlin : List
       KotlinRun kotlin (renamed java entry) input schedule n ≡ JavaRun java entry input schedule n
   pub never_torn : (entry : Entry) → Entries java configured entry → (input : Input) → Fits entry.takes input.arguments → (schedule : List ℕ) (n : ℕ) →
       NeverTorn (KotlinRun kotlin (renamed java entry) input schedule n)
+
+-- ---- entry points are found
+
+-- a thread that has entered a body goes on with its text; the entry took one of n
+abbrev pub entered : Program → Body → List Value → List Answer → ℕ → Turn
+entered program body vs answers n =
+    turn (apart (assign_all body.parameters vs >> body.text (place program (bodies program (n + length answers)) body.site.class)) (record { locals = []; answers = answers; n = n }))
+
+-- it is one of these classes
+abbrev pub IsOneOf : JClass → List JClass → Type 0
+IsOneOf class [] = ⊥
+IsOneOf class (first ∷ classes) = (class ≡ first) ⊎ IsOneOf class classes
+
+-- An entry point is the `main` of a class of the project, which both programs have at one place; there the Java thread begins with its text,
+-- and the Kotlin thread with the text of its Kotlin.
+pub record IsEntered (java : List JFile) (kotlin : List KFile) (entry : Entry) : Type 0 where
+  pub class : JClass
+  pub main : JMain
+  pub one : IsOneOf class (java_classes_in java)
+  pub named : class.name ≡ entry.class
+  pub its : class.main ≡ Some main
+  pub in_java : site_of (java_program (java_classes_in java)) entry ≡ Some (main_site class.name)
+  pub in_kotlin : site_of (kotlin_program (kotlin_classes_in kotlin)) (renamed java entry) ≡ Some (main_site class.name)
+  pub java_begins : (vs : List Value) (answers : List Answer) (n : ℕ) → JavaThread (java_classes_in java) (Enters (main_site class.name) vs) answers (suc n) ≡ entered (java_program (java_classes_in java)) (java_main class.name main) vs answers n
+  pub kotlin_begins : (vs : List Value) (answers : List Answer) (n : ℕ) → KotlinThread (kotlin_classes_in kotlin) (Enters (main_site class.name) vs) answers (suc n) ≡ entered (kotlin_program (kotlin_classes_in kotlin)) (kotlin_main class.name (main_of main)) vs answers n
+
+-- so is each
+abbrev pub EntriesAreEntered : List JFile → List Name → List KFile → Type 0
+EntriesAreEntered java configured kotlin = (entry : Entry) → Entries java configured entry → IsEntered java kotlin entry

@@ -1,5 +1,5 @@
 -- What is known of a place of Kotlin text: the declared types. Its typing and its evaluator read the same.
-use Rattle.std.specs.Prelude.{◌≡◌, Bool, true, false, List, [], ◌∷◌, Option, Some, None, if◌then◌else◌}
+use Rattle.std.specs.Prelude.{◌≡◌, Bool, true, false, List, [], ◌∷◌, Option, Some, None, option_map, filter_map, if◌then◌else◌}
 use Rattle.meanings.specs.declared.kotlin.KExpr.{KExpr, para-KExpr}
 use Rattle.meanings.specs.declared.kotlin.KExpr.TheOpen.{KExpr-F}
 use Rattle.meanings.specs.declared.kotlin.KStmt.{KStmt}
@@ -7,7 +7,7 @@ use Rattle.meanings.specs.declared.kotlin.KStmt.TheVariants.{Val, Print}
 use Rattle.meanings.specs.declared.kotlin.KMain.{KMain}
 use Rattle.meanings.specs.declared.kotlin.KClass.{KClass}
 use Rattle.meanings.specs.declared.kotlin.KFile.{KFile}
-use Rattle.meanings.specs.Values.{Name, same_name, ClassName, Simple}
+use Rattle.meanings.specs.Values.{Name, same_name, Differ, ClassName, Simple}
 
 -- the types of the profile that this form has (Kotlin, "Built-in types")
 pub data KType : Type 0 where
@@ -104,6 +104,16 @@ abbrev pub ClassHasTypes : Option KClass → Type 0
 ClassHasTypes None = Unit {0}
 ClassHasTypes (Some class) = MainHasTypes class.name class.main
 
--- a file whose class is so
-abbrev pub KTyped : KFile → Type 0
-KTyped file = ClassHasTypes file.class
+-- each file's class is so
+abbrev pub AllHaveTypes : List KFile → Type 0
+AllHaveTypes [] = Unit {0}
+AllHaveTypes (file ∷ files) = ClassHasTypes file.class × AllHaveTypes files
+
+-- the simple names of the classes of files
+abbrev pub class_names : List KFile → List Name
+class_names files = filter_map (λ file. option_map (λ (class : KClass). class.name) file.class) files
+
+-- The classes of the files are well typed, and no two of them have one simple name (own rule).
+pub record KTyped (files : List KFile) : Type 0 where
+  pub classes : AllHaveTypes files
+  pub names : Differ (class_names files)

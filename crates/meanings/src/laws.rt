@@ -9,7 +9,7 @@ ghost use Rattle.meanings.specs.Java.{java_program};
 ghost use Rattle.meanings.specs.Kotlin.{kotlin_program};
 ghost use Rattle.meanings.specs.World.{World};
 ghost use Rattle.meanings.specs.Runs.{Thread};
-ghost use Rattle.meanings.specs.SameSteps.{SameSteps};
+ghost use Rattle.meanings.specs.SameSteps.{SameSteps, EntriesAreEntered};
 ghost use Rattle.meanings.specs.Same.{SameThreadsOf};
 ghost use Rattle.meanings.specs.Laws.{SameIsEqual, SameAtEveryDepth, EqualRuns, MatchingRuns, OnlyStepsChange, ThreadsAgree, OneAnswer, ChangesOnlyWhatItSays, RunsGrow, SpellingIsKept, TypesAreKept};
 ghost use Rattle.meanings.specs.KSpells.{SpellsOne};
@@ -17,6 +17,11 @@ ghost use Rattle.meanings.specs.KSpells.{SpellsOne};
 /// The Kotlin of a project makes exactly the steps of the project, in every run, and Torn never comes.
 pub fn same_steps()
     ensures { (files : List JFile) (configured : List Name) → SameSteps files configured (files_of files) }
+{}
+
+/// Each entry point is found in both programs, and its thread begins with its text.
+pub fn entries_are_entered()
+    ensures { (files : List JFile) (configured : List Name) → EntriesAreEntered files configured (files_of files) }
 {}
 
 /// A thread is the same with every larger depth, in both languages.
@@ -76,7 +81,7 @@ pub fn same_is_equal()
     ensures { SameIsEqual }
 {}
 
-/// The Kotlin of a well typed file is well typed.
+/// The Kotlin of well typed files is well typed.
 pub fn types_are_kept()
     ensures { TypesAreKept }
 {}
