@@ -20,4 +20,5 @@ pub mod Words
 pub mod Expressions
 pub mod Spelling
 pub mod Numbers
+pub mod Texts
 pub mod LawsToCite
