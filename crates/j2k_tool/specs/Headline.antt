@@ -4,8 +4,8 @@ use Rattle.std.specs.List.{flat_map}
 use Rattle.j2k_io.specs.Disks.{Files, in_folder, with_files}
 use Rattle.meanings.specs.declared.kotlin.KFile.{KFile}
 use Rattle.meanings.specs.KSpells.{KSpells, HasNoKeyword}
-use Rattle.meanings.specs.SameSteps.{SameSteps}
-use Rattle.meanings.specs.Static.{KTyped}
+use Rattle.meanings.specs.SameSteps.{SameSteps, EntriesAreEntered}
+use Rattle.meanings.specs.Static.{ClassHasTypes}
 use Rattle.j2k_tool.specs.declared.files.TakenFile.{TakenFile}
 use Rattle.j2k_tool.specs.Texts.{report_name}
 use Rattle.j2k_tool.specs.Paths.{kotlin_path}
@@ -19,7 +19,7 @@ pub record IsWritten (dst : List ℕ) (java : TakenFile) (kotlin : KFile) (file 
   pub spelled : KSpells kotlin file.1
   pub one_kotlin : (other : KFile) → KSpells other file.1 → other ≡ kotlin
   pub no_keyword : HasNoKeyword kotlin
-  pub typed : KTyped kotlin
+  pub typed : ClassHasTypes kotlin.class
 
 -- one file for each
 abbrev pub AreWritten : List ℕ → List TakenFile → List KFile → List (List ℕ × List ℕ) → Type 0
@@ -42,4 +42,5 @@ pub record Headline (words : List (List ℕ)) (files : Files) (new : Option File
   pub written : List (List ℕ × List ℕ)
   pub made : new ≡ with_files (Some files) (written ++ (in_folder dst report_name, ReportText (length java) (flat_map Choices java)) ∷ [])
   pub spelled : AreWritten dst java kotlin written
-  pub steps : SameSteps (trees_of java) kotlin
+  pub steps : SameSteps (trees_of java) project.sources.entries kotlin
+  pub entered : EntriesAreEntered (trees_of java) project.sources.entries kotlin
