@@ -16,6 +16,8 @@ pub mod SafeLaws
 pub mod WorldLaws
 pub mod SafeSteps
 pub mod SafeBodies
+pub mod SafePrograms
+pub mod Schedules
 pub mod Depth
 pub mod FormDepth
 pub mod SameValues

@@ -29,8 +29,10 @@ module _ (t : Table) (i : ℕ) where
       → ((K' : Known) (v : Value) (l' : Locals) → Later K K' → J K' (Throws v) l' → J' K' (Throws v) l)
       → ((K' : Known) (e : Exit) (l' : Locals) → J K' (Exits e) l' → ⊥)
       → Sound t i Q' J' K (apart m) l n
-  apart_sound {J = J} {J' = J'} {Q' = Q'} {K = K} {l = l} h ends returns throws exits = record { by = after_safe t i (returned l) (record { asks = λ p. refl; is_busy = refl }) h.by
-      (λ K' u l' n le q. gives Null l n (λ xs. refl) (ends K' l' le q)) left } where
+  apart_sound {J = J} {J' = J'} {Q' = Q'} {K = K} {l = l} h ends returns throws exits = record {
+    by = after_safe t i (returned l) (record { asks = λ p. refl; is_busy = refl }) h.by
+        (λ K' u l' n le q. gives Null l n (λ xs. refl) (ends K' l' le q)) left;
+  } where
     left : (K' : Known) (j : Jump) (l' : Locals) (n : ℕ) → Later K K' → J K' j l' → Safe t i Q' J' K' (λ xs. returned l (Jumps j (record { locals = l'; answers = xs; n = n })))
     left K' (Returns v) l' n le q = gives v l n (λ xs. refl) (returns K' v l' le q)
     left K' (Throws v) l' n le q = jumps (Throws v) l n (λ xs. refl) (throws K' v l' le q)
@@ -68,12 +70,15 @@ module _ (t : Table) (i : ℕ) where
 
   -- an initialization ends the class, well or failed
   initialize_sound : {K : Known} (p : Place) → BodiesOk t i p.bodies → (class : ClassName) (l : Locals) (n : ℕ) → FreeButIn t i class K.world.classes → Sound t i (Touched class l) (OnlyThrows t i) K (initialize p class) l n
-  initialize_sound {K} p ok class l n free = record { by = after_safe t i (init_end p.classes class) (record { asks = λ q. refl; is_busy = refl })
-      (apart_sound {J' = StartThrows class} {Q' = λ K' v l'. (l' ≡ l) × FreeButIn t i class K'.world.classes × Settled t i K' class} (ok.initializer class K n free)
+  initialize_sound {K} p ok class l n free = record {
+    by = after_safe t i (init_end p.classes class) (record { asks = λ q. refl; is_busy = refl })
+        (apart_sound {J' = StartThrows class} {Q' = λ K' v l'. (l' ≡ l) × FreeButIn t i class K'.world.classes × Settled t i K' class} (ok.initializer class K n free)
         (λ K' l' le q. (refl, q.0, q.1)) (λ K' v l' le q. (refl, q.0, q.1)) (λ K' v l' le q. q) (λ K' e l' q. q)).by
-      (λ K' v l' n' le q. (well K' l' n' q).by) (λ K' j l' n' le q. failed K' j l' n' q) } where
+        (λ K' v l' n' le q. (well K' l' n' q).by) (λ K' j l' n' le q. failed K' j l' n' q);
+  } where
     well : (K' : Known) (l' : Locals) (n' : ℕ) → (l' ≡ l) × FreeButIn t i class K'.world.classes × Settled t i K' class → Sound t i (Touched class l) (OnlyThrows t i) K' (ask_done (InitEnd class true)) l' n'
     well K' l' n' q = weaken t i (done_after l' n' class true q.1 (λ e. q.2)) (λ K'' u l'' le h. (h.0 ∙ q.0, h.1, settled_later t i class le q.2)) (λ K'' j l'' le h. h)
+
     failed : (K' : Known) (j : Jump) (l' : Locals) (n' : ℕ) → StartThrows class K' j l' → Safe t i (Touched class l) (OnlyThrows t i) K' (λ xs. init_end p.classes class (Jumps j (record { locals = l'; answers = xs; n = n' })))
     failed K' (Throws v) l' n' q = (bind_sound t i (done_after l' n' class false q (λ e. cc)) (λ K'' u l'' n'' le h. fail_sound l'' n'' v (is_error p.classes v) h.1)).by
     failed K' (Returns v) l' n' q = absurd q

@@ -26,8 +26,8 @@ module _ (t : Table) (i : ℕ) where
       → Safe t i Q' J' K (λ xs. g (b xs))
   after_safe g passes (asks p grow h fine moves rest) f k = asks p grow (ap g h ∙ passes.asks p) fine moves
       (λ K' le ok w a r. after_safe g passes (rest K' le ok w a r)
-        (λ K'' x l n le' q. f K'' x l n (later_on le.later (later_on (moves K' le ok w a r).later le')) q)
-        (λ K'' j l n le' q. k K'' j l n (later_on le.later (later_on (moves K' le ok w a r).later le')) q))
+      (λ K'' x l n le' q. f K'' x l n (later_on le.later (later_on (moves K' le ok w a r).later le')) q)
+      (λ K'' j l n le' q. k K'' j l n (later_on le.later (later_on (moves K' le ok w a r).later le')) q))
   after_safe g passes (is_busy h) f k = is_busy (λ xs. ap g (h xs) ∙ passes.is_busy)
   after_safe g passes {K} (gives a l n h q) f k = same_safe (λ xs. sym (ap g (h xs))) (f K a l n (later_self K) q)
   after_safe g passes {K} (jumps j l n h q) f k = same_safe (λ xs. sym (ap g (h xs))) (k K j l n (later_self K) q)

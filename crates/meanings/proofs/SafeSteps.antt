@@ -118,11 +118,11 @@ module _ (t : Table) (i : ℕ) where
 
   pub raise_sound : (B : Known → Type 0) → Lasting B → {A : Type 0} {Q : Known → A → Locals → Type 0} {K : Known} (l : Locals) (n : ℕ) (class : Name) → B K → Sound t i Q (Thrown B) K (raise {A = A} class) l n
   raise_sound B lasting l n class base = bind_sound t i (value_sound B lasting {R = λ K' v. Unit {0}} l n (Raise class) (one_made (AnInstance (Simple class))) (record {
-      fine = (λ e. cc, λ v e. cc);
-      moved = λ K' le ok w a r. subst (λ (w : World). Moved t K' (with_made K' (one_made (AnInstance (Simple class))) w)) (reply_is r).0 (made_moved t K' (AnInstance (Simple class)) exception_content refl ok (made_instance (Simple class) K'));
-      classes = λ K' le ok w a r. ap (λ (w : World). w.classes) (sym (reply_is r).0);
-      says = λ K' le ok w a r. subst (λ (a : Answer). OfValue B lasting (λ K' v. Unit {0}) (with_made K' (one_made (AnInstance (Simple class))) w) a) (reply_is r).1 tt;
-    }) base) (λ K' v l' n' le q. jump_sound t i q.1)
+    fine = (λ e. cc, λ v e. cc);
+    moved = λ K' le ok w a r. subst (λ (w : World). Moved t K' (with_made K' (one_made (AnInstance (Simple class))) w)) (reply_is r).0 (made_moved t K' (AnInstance (Simple class)) exception_content refl ok (made_instance (Simple class) K'));
+    classes = λ K' le ok w a r. ap (λ (w : World). w.classes) (sym (reply_is r).0);
+    says = λ K' le ok w a r. subst (λ (a : Answer). OfValue B lasting (λ K' v. Unit {0}) (with_made K' (one_made (AnInstance (Simple class))) w) a) (reply_is r).1 tt;
+  }) base) (λ K' v l' n' le q. jump_sound t i q.1)
 
   -- ---- classes
 
@@ -172,23 +172,23 @@ module _ (t : Table) (i : ℕ) where
   touch_mine K' class w a owner true ok free e m r =
       let same : K'.world ≡ w = (reply_is r).0 in
       subst (λ (w : World). TouchDone K' class w a) same (subst (λ (a : Answer). TouchDone K' class K'.world a) (reply_is r).1
-        (record { moved = stays_moved t K' ok; says = (free, λ calm. let no : true ≡ false = sym m ∙ ap (is_mine i) (sym e) ∙ free class calm in cc) }))
+      (record { moved = stays_moved t K' ok; says = (free, λ calm. let no : true ≡ false = sym m ∙ ap (is_mine i) (sym e) ∙ free class calm in cc) }))
   touch_mine K' class w a owner false ok free e m r = cc
 
   touch_done : (K' : Known) (class : ClassName) (w : World) (a : Answer) (s : ClassState) → Ok t K' → FreeIn t i K'.world.classes → state_of K'.world.classes class ≡ s → touch_answer K'.world i class s ≡ reply w a → TouchDone K' class w a
   touch_done K' class w a Untouched ok free e r =
       subst (λ (w : World). TouchDone K' class w a) (reply_is r).0 (subst (λ (a : Answer). TouchDone K' class (record K'.world { classes = (class, Running i) ∷ K'.world.classes }) a) (reply_is r).1
-        (record {
-          moved = classes_moved t K' ((class, Running i) ∷ K'.world.classes) ok (λ d h. touch_run K' class ok d (newest_at class (Running i) K'.world.classes d (same_class class d) refl) h);
-          says = λ d differs calm. run_free class K'.world.classes free d (newest_at class (Running i) K'.world.classes d (same_class class d) refl) differs calm;
-        }))
+      (record {
+        moved = classes_moved t K' ((class, Running i) ∷ K'.world.classes) ok (λ d h. touch_run K' class ok d (newest_at class (Running i) K'.world.classes d (same_class class d) refl) h);
+        says = λ d differs calm. run_free class K'.world.classes free d (newest_at class (Running i) K'.world.classes d (same_class class d) refl) differs calm;
+      }))
   touch_done K' class w a (Running owner) ok free e r = touch_mine K' class w a owner (owner == i) ok free e refl r
   touch_done K' class w a IsReady ok free e r =
       subst (λ (w : World). TouchDone K' class w a) (reply_is r).0 (subst (λ (a : Answer). TouchDone K' class K'.world a) (reply_is r).1
-        (record { moved = stays_moved t K' ok; says = (free, ok.ready class e) }))
+      (record { moved = stays_moved t K' ok; says = (free, ok.ready class e) }))
   touch_done K' class w a IsFailed ok free e r =
       subst (λ (w : World). TouchDone K' class w a) (reply_is r).0 (subst (λ (a : Answer). TouchDone K' class K'.world a) (reply_is r).1
-        (record { moved = stays_moved t K' ok; says = free }))
+      (record { moved = stays_moved t K' ok; says = free }))
 
   pub touch_asks : {J : Known → Jump → Locals → Type 0} {K : Known} (l : Locals) (n : ℕ) (class : ClassName) → FreeIn t i K.world.classes → Sound t i (λ K' a l'. (l' ≡ l) × TouchSays class K' a) J K (ask (Touch class)) l n
   touch_asks l n class free = ask_sound t i (Touch class) as_it_was (λ e. cc, λ v e. cc) (λ K' le ok w a r.
@@ -244,6 +244,6 @@ module _ (t : Table) (i : ℕ) where
       → Sound t i (λ K' a l'. (l' ≡ l) × FreeIn t i K'.world.classes × (a ≡ Done)) J K (ask (InitEnd class well)) l n
   end_asks l n class well free settled = ask_sound t i (InitEnd class well) as_it_was (λ e. cc, λ v e. cc) (λ K' le ok w a r.
       let m : Moved t K' (same_shapes K' (ended_world K' class well)) = classes_moved t K' (ended_class K'.world.classes i class well (state_of K'.world.classes class)) ok
-            (ended_ready K' class well (state_of K'.world.classes class) ok (λ h. settled_later class le.later (settled h))) in
+      (ended_ready K' class well (state_of K'.world.classes class) ok (λ h. settled_later class le.later (settled h))) in
       let f : FreeIn t i (ended_world K' class well).classes = ended_free class K'.world.classes well (state_of K'.world.classes class) refl (free_but_between class le free) in
       (subst (λ (w : World). Moved t K' (same_shapes K' w)) (reply_is r).0 m, (refl, subst (λ (w : World). FreeIn t i w.classes) (reply_is r).0 f, sym (reply_is r).1)))

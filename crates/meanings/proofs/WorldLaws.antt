@@ -59,7 +59,7 @@ module _ (t : Table) where
       fields = λ k f other h.
           let same : fields_at (one_more K m (with_object K.world c)) k ≡ fields_at K k = snoc_fields K.world.heap c k e in
           subst (λ (fs : List (Field × Value)). Has t (one_more K m (with_object K.world c)) (stored fs f other) (t.field_type f)) (sym same)
-            (has_later t (made_later K m c e) _ (t.field_type f) (ok.fields k f other (sym (ap (λ fs. is_stored fs f) same) ∙ h)));
+          (has_later t (made_later K m c e) _ (t.field_type f) (ok.fields k f other (sym (ap (λ fs. is_stored fs f) same) ∙ h)));
       statics = λ f other h. has_later t (made_later K m c e) _ (t.static_type f) (ok.statics f other h);
       arrays = λ k type size h. new_array K m c e ok fresh k type size (snoc_at K.shapes m k _ h);
       ready = ok.ready;
@@ -102,12 +102,12 @@ module _ (t : Table) where
   put_fields K k f new ok has j g def (here is e) h =
       let K' : Known = heap_put K k (put_at K k f new) in
       subst (λ (x : Content). Has t K' (stored x.fields g def) (t.field_type g)) (sym e)
-        (put_has K' t.field_type f g new def (fields_at K k) (same_field f g) refl (has_later t (put_later K k f new) new (t.field_type f) has)
-          (λ i. has_later t (put_later K k f new) _ (t.field_type g) (ok.fields k g def i)) (sym (ap (λ (x : Content). is_stored x.fields g) e) ∙ h))
+      (put_has K' t.field_type f g new def (fields_at K k) (same_field f g) refl (has_later t (put_later K k f new) new (t.field_type f) has)
+      (λ i. has_later t (put_later K k f new) _ (t.field_type g) (ok.fields k g def i)) (sym (ap (λ (x : Content). is_stored x.fields g) e) ∙ h))
   put_fields K k f new ok has j g def (other e) h =
       let K' : Known = heap_put K k (put_at K k f new) in
       subst (λ (x : Content). Has t K' (stored x.fields g def) (t.field_type g)) (sym e)
-        (has_later t (put_later K k f new) _ (t.field_type g) (ok.fields j g def (sym (ap (λ (x : Content). is_stored x.fields g) e) ∙ h)))
+      (has_later t (put_later K k f new) _ (t.field_type g) (ok.fields j g def (sym (ap (λ (x : Content). is_stored x.fields g) e) ∙ h)))
 
   same_elements_at : (K : Known) (k : ℕ) (f : Field) (new : Value) (j : ℕ) → SetAt K.world.heap k (put_at K k f new) j no_content → elements_at (heap_put K k (put_at K k f new)) j ≡ elements_at K j
   same_elements_at K k f new j (here is e) = ap (λ (x : Content). x.elements) e ∙ ap (elements_at K) (sym is)
@@ -232,7 +232,7 @@ module _ (t : Table) where
           fields = λ i g def h.
               let same : fields_at K' i ≡ fields_at K i = same_fields_at K k j new i (set_at K.world.heap k _ i _) in
               subst (λ (fs : List (Field × Value)). Has t K' (stored fs g def) (t.field_type g)) (sym same)
-                (has_later t (elem_later K k j new) _ (t.field_type g) (ok.fields i g def (sym (ap (λ fs. is_stored fs g) same) ∙ h)));
+              (has_later t (elem_later K k j new) _ (t.field_type g) (ok.fields i g def (sym (ap (λ fs. is_stored fs g) same) ∙ h)));
           statics = λ g def h. has_later t (elem_later K k j new) _ (t.static_type g) (ok.statics g def h);
           arrays = λ i type size h. elem_array K k j new own n ok shape has i type size h (set_at K.world.heap k _ i _);
           ready = ok.ready;
