@@ -18,6 +18,7 @@ pub mod SafeSteps
 pub mod SafeBodies
 pub mod SafePrograms
 pub mod Schedules
+pub mod KotlinSafe
 pub mod Depth
 pub mod FormDepth
 pub mod SameValues

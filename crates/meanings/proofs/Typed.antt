@@ -13,7 +13,7 @@ use Rattle.meanings.specs.declared.java.JMain.{JMain}
 use Rattle.meanings.specs.declared.java.JClass.{JClass}
 use Rattle.meanings.specs.Convert.{expression_of, statement_of, main_of, class_of, files_of}
 use Rattle.meanings.specs.Values.{Name, same_name, is_among, Differ}
-use Rattle.meanings.specs.Static.{KType, IntType, Static, declared, declared_local, past, with_local, type_of, IsTyped, MainHasTypes, ClassHasTypes, AllHaveTypes, class_names, main_static}
+use Rattle.meanings.specs.Static.{KType, IntType, Static, declared, declared_local, with_local, type_of, IsTyped, MainHasTypes, ClassHasTypes, AllHaveTypes, class_names, main_static}
 use Rattle.meanings.specs.JTyped.{known_by, Knows, AreTyped, MainIsTyped, ClassIsTyped, AllAreTyped, class_names as java_class_names}
 use Rattle.meanings.specs.JNamed.{named_by, level_by as java_level_by, level_of as java_level_of, IsNamed, AreNamed, MainIsNamed, ClassIsNamed}
 use Rattle.meanings.specs.KSpells.{stands_by, level_by, level_of, IsExpression, AreStatements, IsMain, IsClass}

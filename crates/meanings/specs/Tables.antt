@@ -1,6 +1,6 @@
 -- What is declared in a program, and what is known of a world by its types.
 use Rattle.std.specs.Prelude.{◌≡◌, ◌⊎◌, ℕ, ℤ, ◌<◌, ◌==◌, Bool, true, false, List, [], ◌∷◌, length, Option, Some, None, slice_get, slice_index_or, if◌then◌else◌}
-use Rattle.meanings.specs.Values.{Name, same_name, ClassName, Field, same_field, Site, same_site, Kind, Value, Null, Integer, Units, Object, Array, Captured, Elements, Answer}
+use Rattle.meanings.specs.Values.{Name, same_name, ClassName, Field, same_field, Site, same_site, Kind, Value, Null, Integer, Units, Object, Array, Captured, Elements}
 use Rattle.meanings.specs.Outcome.{Locals, get}
 use Rattle.meanings.specs.Static.{KType, IntType, StringType, ClassType, ArrayType, Nullable}
 use Rattle.meanings.specs.World.{World, ClassState, Untouched, Running, IsReady, IsFailed, state_of, content_at, stored}
