@@ -42,7 +42,7 @@ use Rattle.meanings.specs.declared.kotlin.KClass.{KClass}
 use Rattle.meanings.specs.Values.{same_name, is_among}
 use Rattle.meanings.specs.Convert as to
 use Rattle.meanings.specs.KSpells.{IsIdentifier, AreIdentifiers, DeclareNoKeyword, MainHasNoKeyword, ClassHasNoKeyword, AreNoKeywords, HasNoKeyword}
-use Rattle.meanings.specs.JTyped.{Knows, AreTyped, MainIsTyped, ClassIsTyped, JTyped}
+use Rattle.meanings.specs.JTyped.{Knows, AreTyped, MainIsTyped, ClassIsTyped, IsTypedFile}
 use Rattle.meanings.specs.JNamed.{IsNamed, AreNamed, MainIsNamed, ClassIsNamed, JNamed}
 use Rattle.java_keywords.specs.Words.{word_kind}
 use Rattle.kotlin_words.specs.Words.{hard_keywords, reserved_names, contains_word}
@@ -411,7 +411,7 @@ typed_package (Some x) names is =
 -- ---- units
 
 pub record FileGood (file : JFile) : Type 0 where
-  pub typed : JTyped file
+  pub typed : IsTypedFile file
   pub named : JNamed file
   pub keywords : HasNoKeyword (to.file_of file)
 

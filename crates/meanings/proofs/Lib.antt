@@ -16,6 +16,7 @@ pub mod SafeLaws
 pub mod WorldLaws
 pub mod SafeSteps
 pub mod SafeBodies
+pub mod SafePlaces
 pub mod SafePrograms
 pub mod Schedules
 pub mod KotlinSafe
