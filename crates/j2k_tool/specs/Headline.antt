@@ -5,7 +5,7 @@ use Rattle.j2k_io.specs.Disks.{Files, in_folder, with_files}
 use Rattle.meanings.specs.declared.kotlin.KFile.{KFile}
 use Rattle.meanings.specs.KSpells.{KSpells, HasNoKeyword}
 use Rattle.meanings.specs.SameSteps.{SameSteps, EntriesAreEntered}
-use Rattle.meanings.specs.Static.{ClassHasTypes}
+use Rattle.meanings.specs.Static.{FileHasTypes}
 use Rattle.j2k_tool.specs.declared.files.TakenFile.{TakenFile}
 use Rattle.j2k_tool.specs.Texts.{report_name}
 use Rattle.j2k_tool.specs.Paths.{kotlin_path}
@@ -19,7 +19,7 @@ pub record IsWritten (dst : List ℕ) (java : TakenFile) (kotlin : KFile) (file 
   pub spelled : KSpells kotlin file.1
   pub one_kotlin : (other : KFile) → KSpells other file.1 → other ≡ kotlin
   pub no_keyword : HasNoKeyword kotlin
-  pub typed : ClassHasTypes kotlin.class
+  pub typed : FileHasTypes kotlin
 
 -- one file for each
 abbrev pub AreWritten : List ℕ → List TakenFile → List KFile → List (List ℕ × List ℕ) → Type 0
@@ -29,7 +29,7 @@ AreWritten dst java kotlin files = ⊥
 
 -- The words convert one folder to another. The files under the first spell Java units, one each, which are taken. A Kotlin file for each, in
 -- the same folder, and a report were written under the second, and nothing else changed. Each Kotlin file spells one Kotlin file tree, which
--- is well typed, and these, for every entry point, input, schedule and bound, make exactly the steps of the Java files under the recorded
+-- is well typed, and these, for every entry point, fitting input, schedule and bound, make exactly the steps of the Java files under the recorded
 -- names.
 pub record Headline (words : List (List ℕ)) (files : Files) (new : Option Files) : Type 0 where
   pub src : List ℕ

@@ -1,5 +1,5 @@
 -- What is known of a world stays true.
-use Rattle.std.proofs.Common.{◌≡◌, ℕ, inl, inr, refl, ◌∙◌}
+use Rattle.std.proofs.Common.{ℕ, inl, inr, refl, ◌∙◌}
 use Rattle.meanings.specs.Values.{Value}
 use Rattle.meanings.specs.Static.{KType, IntType, StringType, ClassType, ArrayType, Nullable}
 use Rattle.meanings.specs.Tables.{Table, Known, Later, Between, Has}

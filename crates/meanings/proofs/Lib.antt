@@ -16,8 +16,10 @@ pub mod SafeLaws
 pub mod WorldLaws
 pub mod SafeSteps
 pub mod SafeBodies
+pub mod SafePlaces
 pub mod SafePrograms
 pub mod Schedules
+pub mod KotlinSafe
 pub mod Depth
 pub mod FormDepth
 pub mod SameValues

@@ -1,12 +1,12 @@
 -- Bodies that are sound, and the parts that enter them.
-use Rattle.std.proofs.Common.{◌≡◌, ℕ, Bool, true, false, ◌&&◌, List, [], ◌∷◌, Option, Some, None, refl, sym, ◌∙◌, ap, subst, if◌then◌else◌}
+use Rattle.std.proofs.Common.{◌≡◌, ℕ, Bool, true, false, ◌&&◌, List, [], ◌∷◌, Some, refl, sym, ◌∙◌, subst, if◌then◌else◌}
 use Rattle.std.specs.Prelude.{codes}
 use Rattle.meanings.specs.Values.{Name, ClassName, same_class, same_flag, Field, Site, same_site, Value, Null, InitEnd, Touch, Answer, Ready, Run, Mine, Failed, Done, Given, Raised}
-use Rattle.meanings.specs.Outcome.{Locals, State, Exit, Jump, Exits, Returns, Throws, Outcome, Gives, Jumps, Meaning, pure, ◌>>=◌, ◌>>◌, jump, ask}
+use Rattle.meanings.specs.Outcome.{Locals, Exit, Jump, Exits, Returns, Throws, Jumps, Meaning, pure, ◌>>=◌, jump, ask}
 use Rattle.meanings.specs.Classes.{is_error}
-use Rattle.meanings.specs.Machine.{Bodies, Place, received, ask_done, raise, returned, apart, fail, init_end, initialize, touched, touch}
+use Rattle.meanings.specs.Machine.{Place, received, ask_done, raise, returned, apart, init_end, initialize, touched, touch}
 use Rattle.meanings.specs.Tables.{Signature, Table, find, Known, Later}
-use Rattle.meanings.specs.Safety.{Safe, gives, jumps, Sound, Settled, FreeIn, FreeButIn, OnlyThrows, Started, BodiesOk}
+use Rattle.meanings.specs.Safety.{Safe, gives, jumps, Sound, Settled, FreeIn, FreeButIn, OnlyThrows, BodiesOk}
 use Rattle.meanings.proofs.SameValues.{both, same_class_true}
 use Rattle.meanings.proofs.SafeLaws.{after_safe, bind_sound, pure_sound, jump_sound, weaken}
 use Rattle.meanings.proofs.SafeSteps.{settled_later, Thrown, free_lasting, TouchSays, raise_sound, touch_asks, end_asks}

@@ -1,7 +1,7 @@
 -- Parts that are safe, and what is made of them.
-use Rattle.std.proofs.Common.{◌≡◌, ◌≢◌, ℕ, List, [], ◌∷◌, Some, refl, sym, ◌∙◌, ap}
-use Rattle.meanings.specs.Values.{Step, Torn, Start, Answer}
-use Rattle.meanings.specs.Outcome.{Locals, State, Jump, Outcome, Asks, Busy, Gives, Jumps, Meaning, then_do, pure, ◌>>=◌, jump, ask, busy}
+use Rattle.std.proofs.Common.{◌≡◌, ℕ, List, [], ◌∷◌, Some, refl, sym, ◌∙◌, ap}
+use Rattle.meanings.specs.Values.{Step, Answer}
+use Rattle.meanings.specs.Outcome.{Locals, Jump, Outcome, Asks, Busy, Gives, Jumps, Meaning, then_do, pure, ◌>>=◌, jump, ask, busy}
 use Rattle.meanings.specs.World.{World, answer}
 use Rattle.meanings.specs.Tables.{Table, Made, Known, Later, Between, Ok, Moved}
 use Rattle.meanings.specs.Safety.{Plan, Fine, with_made, Safe, asks, is_busy, gives, jumps, Sound}

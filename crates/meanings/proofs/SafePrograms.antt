@@ -1,13 +1,13 @@
 -- The bodies of a typed program are sound, to each depth, and so are its threads.
-use Rattle.std.proofs.Common.{◌≡◌, ℕ, zero, suc, Bool, true, false, not, List, [], ◌∷◌, Option, Some, None, slice_get, refl, sym, ◌∙◌, ap, subst, if◌then◌else◌}
-use Rattle.meanings.specs.Values.{Name, same_name, ClassName, same_class, Field, Site, same_site, Value, Null, Object, Captured}
-use Rattle.meanings.specs.Outcome.{Locals, Jump, Exits, Returns, Throws, Meaning, get, ◌>>=◌, ◌>>◌, assign, assign_all, pay}
+use Rattle.std.proofs.Common.{◌≡◌, ℕ, zero, suc, Bool, true, false, not, List, [], ◌∷◌, Some, None, slice_get, refl, sym, ◌∙◌, ap, subst, if◌then◌else◌}
+use Rattle.meanings.specs.Values.{Name, same_name, ClassName, same_class, Site, same_site, Value, Object, Captured}
+use Rattle.meanings.specs.Outcome.{Locals, Jump, Meaning, get, ◌>>◌, assign, assign_all, pay}
 use Rattle.meanings.specs.Static.{KType}
-use Rattle.meanings.specs.Machine.{Bodies, Place, apart, call, touch}
+use Rattle.meanings.specs.Machine.{Bodies}
 use Rattle.meanings.specs.Program.{Program, Body, Initializer, place, outside, enter, begin, bodies, thread_from, Start, Enters, Runs}
 use Rattle.meanings.specs.Objects.{this_name}
-use Rattle.meanings.specs.Tables.{Signature, Table, find, type_in, AnInstance, Known, Later, Has, HasAll, Holds}
-use Rattle.meanings.specs.Safety.{Safe, is_busy, gives, Sound, Settled, FreeIn, FreeButIn, Ends, Leaves, OnlyThrows, Started, Whole, BodiesOk, Different, names_of, TypedMethod, TypedConstructor, TypedInitializer, AllMethods, AllConstructors, AllInitializers, By, TypedProgram, EntersWell}
+use Rattle.meanings.specs.Tables.{Signature, Table, find, type_in, AnInstance, Known, Later, Has, HasAll}
+use Rattle.meanings.specs.Safety.{is_busy, gives, Sound, Settled, FreeIn, FreeButIn, Ends, Leaves, OnlyThrows, Started, Whole, BodiesOk, Different, names_of, TypedMethod, TypedConstructor, TypedInitializer, AllMethods, AllConstructors, AllInitializers, By, TypedProgram, EntersWell}
 use Rattle.meanings.proofs.SameValues.{same_class_true}
 use Rattle.meanings.proofs.KnownLaws.{has_later}
 use Rattle.meanings.proofs.SafeLaws.{bind_sound, pure_sound, busy_sound, weaken}
@@ -79,7 +79,7 @@ module _ (t : Table) (i : ℕ) where
         subst (λ (K' : Known). Sound t i (Ends t i m.result) (Leaves t i m.result) K' (assign_all (names_of m.parameters) vs >> body.text (place program b m.site.class)) l' n') (sym q.0)
         (bind_sound t i (args_sound m.parameters vs K l' n' h.different args) (λ K'' u l'' n'' le' q'.
         subst (λ (K : Known). Sound t i (Ends t i m.result) (Leaves t i m.result) K (body.text (place program b m.site.class)) l'' n'') (sym q'.0)
-        (h.text i b ok K l'' n'' free settled q'.1.typed))))))
+        (h.text i b ok K l'' n'' free settled q'.1.typed (λ x e. q'.1.rest x e ∙ ap (λ (l : Locals). get l x) q.1)))))))
 
     enter_by : (m m' : Signature) (body : Body) → TypedMethod t program m body → (ms : List Signature) (bs : List Body) (site : Site) (K : Known) (n : ℕ) (vs : List Value) (same : Bool) → FreeIn t i K.world.classes → Settled t i K m'.site.class → HasAll t K vs m'.parameters
         → (find ms site ≡ Some m' → Sound t i (Ends t i m'.result) (Leaves t i m'.result) K (enter program b bs site vs) [] n)

@@ -1,11 +1,10 @@
 -- The machine's own parts are sound.
-use Rattle.std.proofs.Common.{◌≡◌, ◌≢◌, ℕ, Bool, true, false, List, [], ◌∷◌, ◌++◌, Option, Some, None, refl, sym, ◌∙◌, ap, subst, ◌==◌, if◌then◌else◌}
-use Rattle.std.specs.Prelude.{codes}
-use Rattle.meanings.specs.Values.{Name, ClassName, Simple, same_class, Field, Value, Null, Step, Touch, InitEnd, Raise, Torn, Start, Answer, Ready, Run, Mine, Failed, Done, Given, Raised}
-use Rattle.meanings.specs.Outcome.{Locals, State, Exit, Jump, Exits, Returns, Throws, Meaning, pure, ◌>>=◌, jump, ask}
+use Rattle.std.proofs.Common.{◌≡◌, ℕ, Bool, true, false, List, [], ◌∷◌, ◌++◌, Option, Some, None, refl, sym, ◌∙◌, ap, subst, ◌==◌, if◌then◌else◌}
+use Rattle.meanings.specs.Values.{Name, ClassName, Simple, same_class, Value, Null, Step, Touch, InitEnd, Raise, Answer, Ready, Run, Mine, Failed, Done, Given, Raised}
+use Rattle.meanings.specs.Outcome.{Locals, Jump, Exits, Returns, Throws, ask}
 use Rattle.meanings.specs.Machine.{received, ask_value, ask_done, raise}
 use Rattle.meanings.specs.World.{World, ClassState, Untouched, Running, IsReady, IsFailed, state_of, answer, touch_answer, ended_class, exception_content}
-use Rattle.meanings.specs.Tables.{Table, Made, AnInstance, AnArrayFor, Known, is_stored, is_mine, Later, Between, Ok, Moved}
+use Rattle.meanings.specs.Tables.{Table, Made, AnInstance, Known, is_mine, Later, Between, Ok, Moved}
 use Rattle.meanings.specs.Safety.{Fine, with_made, Sound, Settled, FreeIn, FreeButIn}
 use Rattle.meanings.proofs.SameValues.{same_class_true}
 use Rattle.meanings.proofs.KnownLaws.{later_on}

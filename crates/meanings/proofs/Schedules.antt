@@ -1,19 +1,19 @@
 -- No run of a typed program asks Torn: one induction over the schedule.
-use Rattle.std.proofs.Common.{◌≡◌, ◌≢◌, ℕ, zero, suc, Bool, true, false, List, [], ◌∷◌, ◌++◌, length, Option, Some, None, slice_get, slice_set, refl, sym, ◌∙◌, ap, subst, arith, if◌then◌else◌, ◌==◌}
-use Rattle.std.proofs.lemmas.Bool.{eq-eqb, eqb-true, ne_eqb}
+use Rattle.std.proofs.Common.{◌≡◌, ◌≢◌, ℕ, zero, suc, ◌+◌, ◌≤◌, Bool, true, false, List, [], ◌∷◌, ◌++◌, length, Option, Some, None, slice_get, slice_set, refl, sym, ◌∙◌, ap, subst, arith, if◌then◌else◌, ◌==◌}
+use Rattle.std.proofs.lemmas.Bool.{eqb-true, ne_eqb}
 use Rattle.meanings.specs.Values.{Name, ClassName, same_class, Field, Value, Step, Touch, InitEnd, Alloc, Built, Get, Put, GetStatic, PutStatic, GetElem, PutElem, Enter, Exit, Print, ReadByte, Lib, Raise, Join, End, Torn, Answer, Ready, Run, Mine, Failed, Done, Given, Raised}
 use Rattle.meanings.specs.Values as values
-use Rattle.meanings.specs.Outcome.{Locals, State, Jump, Exits, Returns, Throws, Outcome, Asks, Busy, Gives, Jumps}
-use Rattle.meanings.specs.Program.{Program, Start, Turn, Next, IsBusy, Ended, at_end, turn, bodies, thread_from, thread_at}
+use Rattle.meanings.specs.Outcome.{Locals, State, Jump, Exits, Returns, Throws, Jumps}
+use Rattle.meanings.specs.Program.{Program, Turn, Next, IsBusy, Ended, at_end, turn, bodies, thread_from, thread, thread_at}
 use Rattle.meanings.specs.World.{World, Status, ClassState, Untouched, Running, IsReady, IsFailed, state_of, Reply, answer, touch_answer, ended_class, enter_answer, exited, start_answer, read_answer, library_answer}
 use Rattle.meanings.specs.Library.{library}
-use Rattle.meanings.specs.Runs.{Thread, Behavior, with_new, replied, turned, turn_of, run, NeverTorn}
-use Rattle.meanings.specs.Laws.{IsKept}
+use Rattle.meanings.specs.Runs.{Thread, Behavior, After, begun, with_new, replied, turned, turn_of, run, NeverTorn}
+use Rattle.meanings.specs.Laws.{SameAtEveryDepth}
 use Rattle.meanings.specs.Tables.{Table, Made, Known, is_mine, Later, Between, Ok, Moved}
 use Rattle.meanings.specs.Safety.{Plan, with_made, Safe, asks, is_busy, gives, jumps, FreeIn, TypedProgram, EntersWell, AllEnter, NeverTornWhereTyped}
 use Rattle.meanings.proofs.RunLaws.{run_never_torn}
-use Rattle.meanings.proofs.SameValues.{same_class_true}
 use Rattle.meanings.proofs.KnownLaws.{has_later, between_self, between_on}
+use Rattle.meanings.proofs.Lists.{length_snoc}
 use Rattle.meanings.proofs.SafeLaws.{same_safe}
 use Rattle.meanings.proofs.SafeSteps.{as_it_was, reply, reply_is, newest_at, NewestAt, own_state, other_state}
 use Rattle.meanings.proofs.SafePrograms.{thread_sound}
@@ -325,5 +325,102 @@ module _ (t : Table) (program : Program) (typed : TypedProgram t program) (d n :
   never_torn K ok none ts enter schedule = run_never_torn next n Invariant never_now (record { kept = λ w ts i inv. turn_of_kept w ts i (slice_get ts i) refl inv }) K.world ts
       (record { shapes = K.shapes; ok = ok; threads = λ i thread e. first_threads K none ts enter i i thread e }) schedule
 
+-- ---- a depth that is never used up
+
+-- each thread had at most so many answers
+abbrev pub AllHad : ℕ → List Thread → Type 0
+AllHad k [] = Unit {0}
+AllHad k (t ∷ ts) = (length t.had ≤ k) × AllHad k ts
+
+had_more : (k m : ℕ) → k ≤ m → (ts : List Thread) → AllHad k ts → AllHad m ts
+had_more k m le [] h = tt
+had_more k m le (t ∷ ts) h = (omega (arith, h.0), had_more k m le ts h.1)
+
+had_at : (k : ℕ) (ts : List Thread) → AllHad k ts → (i : ℕ) (t : Thread) → slice_get ts i ≡ Some t → length t.had ≤ k
+had_at k [] h i t e = cc
+had_at k (u ∷ ts) h zero t e = let same : u ≡ t = cc in subst (λ (x : Thread). length x.had ≤ k) same h.0
+had_at k (u ∷ ts) h (suc i) t e = had_at k ts h.1 i t e
+
+had_set : (k : ℕ) (ts : List Thread) → AllHad k ts → (i : ℕ) (t : Thread) → length t.had ≤ k → AllHad k (slice_set ts i t)
+had_set k [] h i t le = tt
+had_set k (u ∷ ts) h zero t le = (le, h.1)
+had_set k (u ∷ ts) h (suc i) t le = (h.0, had_set k ts h.1 i t le)
+
+had_snoc : (k : ℕ) (ts : List Thread) → AllHad k ts → (t : Thread) → length t.had ≤ k → AllHad k (ts ++ t ∷ [])
+had_snoc k [] h t le = (le, tt)
+had_snoc k (u ∷ ts) h t le = (h.0, had_snoc k ts h.1 t le)
+
+had_begun : (k : ℕ) (w : World) (v : Value) (a : Answer) (ts : List Thread) → AllHad k ts → AllHad k (begun w v a ts)
+had_begun k w v Done ts h = had_snoc k ts h _ (omega arith)
+had_begun k w v Ready ts h = h
+had_begun k w v Run ts h = h
+had_begun k w v Mine ts h = h
+had_begun k w v Failed ts h = h
+had_begun k w v (Given x) ts h = h
+had_begun k w v (Raised x) ts h = h
+
+had_new : (k : ℕ) (w : World) (p : Step) (a : Answer) (ts : List Thread) → AllHad k ts → AllHad k (with_new w p a ts)
+had_new k w (values.Start v) a ts h = had_begun k w v a ts h
+had_new k w (Touch class) a ts h = h
+had_new k w (InitEnd class well) a ts h = h
+had_new k w (Alloc shape) a ts h = h
+had_new k w (Built x) a ts h = h
+had_new k w (Get x f) a ts h = h
+had_new k w (Put x f y) a ts h = h
+had_new k w (GetStatic f) a ts h = h
+had_new k w (PutStatic f y) a ts h = h
+had_new k w (GetElem x j) a ts h = h
+had_new k w (PutElem x j y) a ts h = h
+had_new k w (Enter x) a ts h = h
+had_new k w (Exit x) a ts h = h
+had_new k w (Print units) a ts h = h
+had_new k w ReadByte a ts h = h
+had_new k w (Lib row vs) a ts h = h
+had_new k w (Raise class) a ts h = h
+had_new k w (Join x) a ts h = h
+had_new k w (End ending) a ts h = h
+had_new k w Torn a ts h = h
+
+had_replied : (k : ℕ) (w : World) (ts : List Thread) (i : ℕ) (t : Thread) (p : Step) (r : Reply) → AllHad k ts → length t.had ≤ k → AllHad (suc k) (replied w ts i t p r).threads
+had_replied k w ts i t p None h le = had_more k (suc k) (omega arith) ts h
+had_replied k w ts i t p (Some r) h le =
+    let longer : length (t.had ++ r.1 ∷ []) ≡ suc (length t.had) = length_snoc t.had r.1 in
+    had_new (suc k) w p r.1 _ (had_set (suc k) ts (had_more k (suc k) (omega arith) ts h) i _ (omega (arith, longer)))
+
+had_turned : (k : ℕ) (w : World) (ts : List Thread) (i : ℕ) (t : Thread) (u : Turn) → AllHad k ts → length t.had ≤ k → AllHad (suc k) (turned w ts i t u).threads
+had_turned k w ts i t (Next p) h le = had_replied k w ts i t p (answer w i p) h le
+had_turned k w ts i t IsBusy h le = had_more k (suc k) (omega arith) ts h
+had_turned k w ts i t Ended h le = had_more k (suc k) (omega arith) ts h
+
+had_turn : (next : Behavior) (n k : ℕ) (w : World) (ts : List Thread) (i : ℕ) (o : Option Thread) → slice_get ts i ≡ o → AllHad k ts → AllHad (suc k) (turn_of next n w ts i o).threads
+had_turn next n k w ts i None e h = had_more k (suc k) (omega arith) ts h
+had_turn next n k w ts i (Some t) e h = had_turned k w ts i t (next t.start t.had n) h (had_at k ts h i t e)
+
+module _ (program : Program) (same : SameAtEveryDepth program) (d n : ℕ) where
+  same_turn : (k : ℕ) (w : World) (ts : List Thread) (i : ℕ) (o : Option Thread) → slice_get ts i ≡ o → AllHad k ts → n + k ≤ d → turn_of (thread program) n w ts i o ≡ turn_of (thread_at program d) n w ts i o
+  same_turn k w ts i None e h le = refl
+  same_turn k w ts i (Some t) e h le =
+      let short : length t.had ≤ k = had_at k ts h i t e in
+      ap (turned w ts i t) (sym (same t.start t.had n d (omega (arith, short, le))))
+
+  pub deep_enough : (k : ℕ) (w : World) (ts : List Thread) (schedule : List ℕ) → AllHad k ts → n + k + length schedule ≤ d → run (thread program) n w ts schedule ≡ run (thread_at program d) n w ts schedule
+  deep_enough k w ts [] h le = refl
+  deep_enough k w ts (i ∷ schedule) h le =
+      let short : n + k ≤ d = omega (arith, le) in
+      let rest : n + suc k + length schedule ≤ d = omega (arith, le) in
+      let turn : After = turn_of (thread program) n w ts i (slice_get ts i) in
+      let other : After = turn_of (thread_at program d) n w ts i (slice_get ts i) in
+      ap (λ items. turn.item ∷ items) (deep_enough (suc k) turn.world turn.threads schedule (had_turn (thread program) n k w ts i (slice_get ts i) refl h) rest)
+      ∙ ap (λ (a : After). a.item ∷ run (thread_at program d) n a.world a.threads schedule) (same_turn k w ts i (slice_get ts i) refl h short)
+
+none_had : (t : Table) (K : Known) (ts : List Thread) → AllEnter t K ts → AllHad 0 ts
+none_had t K [] h = tt
+none_had t K (u ∷ ts) h = (subst (λ (xs : List Answer). length xs ≤ 0) (sym h.1) (omega arith), none_had t K ts h.2)
+
 pub never_torn_where_typed : NeverTornWhereTyped
-never_torn_where_typed t program typed K ok none ts enter d n schedule = never_torn t program typed d n K ok none ts enter schedule
+never_torn_where_typed t program typed K ok none ts enter = record {
+  at_depth = λ d n schedule. never_torn t program typed d n K ok none ts enter schedule;
+  whole = λ same n schedule.
+      subst NeverTorn (sym (deep_enough program same (n + 0 + length schedule) n 0 K.world ts schedule (none_had t K ts enter) (omega arith)))
+      (never_torn t program typed (n + 0 + length schedule) n K ok none ts enter schedule);
+}

@@ -1,5 +1,5 @@
 -- What each answer does to a world that is Ok.
-use Rattle.std.proofs.Common.{◌≡◌, ◌⊎◌, inl, inr, ℕ, zero, suc, ◌+◌, ◌<◌, ◌≤◌, Bool, true, false, List, [], ◌∷◌, ◌++◌, length, Option, Some, None, slice_get, slice_set, slice_index_or, refl, sym, ◌∙◌, ap, subst, arith, if◌then◌else◌}
+use Rattle.std.proofs.Common.{◌≡◌, ℕ, zero, suc, ◌<◌, Bool, true, false, List, [], ◌∷◌, ◌++◌, length, Some, slice_get, slice_set, slice_index_or, refl, sym, ◌∙◌, ap, subst, if◌then◌else◌}
 use Rattle.meanings.specs.Values.{ClassName, Field, same_field, Value, Null}
 use Rattle.meanings.specs.World.{World, ClassState, IsReady, state_of, content_at, with_object, stored, no_content}
 use Rattle.meanings.specs.Library.{Content}

@@ -1,12 +1,13 @@
 -- Programs whose typing keeps Torn away: what a part may ask, whatever the world answers.
-use Rattle.std.specs.Prelude.{◌≡◌, ◌≢◌, ℕ, Bool, true, false, List, [], ◌∷◌, map, Option, Some, None, slice_get, if◌then◌else◌}
+use Rattle.std.specs.Prelude.{◌≡◌, ◌≢◌, ℕ, Bool, true, false, List, [], ◌∷◌, map, Some, None, slice_get}
 use Rattle.meanings.specs.Values.{Name, same_name, ClassName, same_class, Field, Site, Value, Object, Captured, Step, Torn, Start, Answer}
-use Rattle.meanings.specs.Outcome.{Locals, get, State, Exit, Jump, Exits, Returns, Throws, Outcome, Asks, Busy, Gives, Jumps, Meaning}
+use Rattle.meanings.specs.Outcome.{Locals, get, Jump, Exits, Returns, Throws, Outcome, Asks, Busy, Gives, Jumps, Meaning}
 use Rattle.meanings.specs.Static.{KType, Nullable}
-use Rattle.meanings.specs.Machine.{Bodies, Place}
-use Rattle.meanings.specs.Program.{Program, Body, Initializer, Start as ThreadStart, Enters, Runs, place, thread_at}
+use Rattle.meanings.specs.Machine.{Bodies}
+use Rattle.meanings.specs.Program.{Program, Body, Initializer, Start as ThreadStart, Enters, Runs, place, thread, thread_at}
 use Rattle.meanings.specs.World.{World, ClassState, state_of, answer}
 use Rattle.meanings.specs.Runs.{Thread, run, NeverTorn}
+use Rattle.meanings.specs.Laws.{SameAtEveryDepth}
 use Rattle.meanings.specs.Objects.{this_name}
 use Rattle.meanings.specs.Tables.{Signature, Table, find, type_in, Made, AnInstance, Known, is_stored, fields_at, is_mine, Between, Has, HasAll, Holds, Ok, Moved}
 
@@ -100,6 +101,10 @@ Different (p ∷ ps) = ((y : Name) → same_name p.0 y ≡ true → type_in ps y
 abbrev pub names_of : List (Name × KType) → List Name
 names_of parameters = map (λ p. p.0) parameters
 
+-- a name that is no parameter has no value yet
+abbrev pub Unset : Locals → List (Name × KType) → Type 0
+Unset l parameters = (x : Name) → type_in parameters x ≡ None → get l x ≡ get [] x
+
 -- the one where the test holds, else the other
 abbrev pub By : Bool → Type 0 → Type 0 → Type 0
 By true P Q = P
@@ -111,7 +116,7 @@ module _ (t : Table) (program : Program) where
     pub site : body.site ≡ m.site
     pub parameters : body.parameters ≡ names_of m.parameters
     pub different : Different m.parameters
-    pub text : (i : ℕ) (b : Bodies) → BodiesOk t i b → (K : Known) (l : Locals) (n : ℕ) → FreeIn t i K.world.classes → Settled t i K m.site.class → Holds t K l m.parameters →
+    pub text : (i : ℕ) (b : Bodies) → BodiesOk t i b → (K : Known) (l : Locals) (n : ℕ) → FreeIn t i K.world.classes → Settled t i K m.site.class → Holds t K l m.parameters → Unset l m.parameters →
         Sound t i (Ends t i m.result) (Leaves t i m.result) K (body.text (place program b m.site.class)) l n
 
   -- so does that of a constructor, which leaves its object with the required fields
@@ -163,7 +168,10 @@ abbrev pub AllEnter : Table → Known → List Thread → Type 0
 AllEnter t K [] = Unit {0}
 AllEnter t K (thread ∷ ts) = EntersWell t K thread.start × (thread.had ≡ []) × AllEnter t K ts
 
--- No run of a typed program asks Torn: for each depth of bodies, first world, threads, bound and schedule.
+-- No run of a typed program asks Torn: for each first world, threads, bound and schedule, with bodies to each depth, and so where the depth doesn't matter.
+pub record Untorn (program : Program) (K : Known) (ts : List Thread) : Type 0 where
+  pub at_depth : (d n : ℕ) (schedule : List ℕ) → NeverTorn (run (thread_at program d) n K.world ts schedule)
+  pub whole : SameAtEveryDepth program → (n : ℕ) (schedule : List ℕ) → NeverTorn (run (thread program) n K.world ts schedule)
+
 abbrev pub NeverTornWhereTyped : Type 0
-NeverTornWhereTyped = (t : Table) (program : Program) → TypedProgram t program → (K : Known) → Ok t K → K.world.classes ≡ [] → (ts : List Thread) → AllEnter t K ts →
-    (d n : ℕ) (schedule : List ℕ) → NeverTorn (run (thread_at program d) n K.world ts schedule)
+NeverTornWhereTyped = (t : Table) (program : Program) → TypedProgram t program → (K : Known) → Ok t K → K.world.classes ≡ [] → (ts : List Thread) → AllEnter t K ts → Untorn program K ts

@@ -106,10 +106,14 @@ abbrev pub ClassHasTypes : Option KClass → Type 0
 ClassHasTypes None = Unit {0}
 ClassHasTypes (Some class) = MainHasTypes class.name class.main
 
--- each file's class is so
+-- a file whose class is so
+abbrev pub FileHasTypes : KFile → Type 0
+FileHasTypes file = ClassHasTypes file.class
+
+-- each file is so
 abbrev pub AllHaveTypes : List KFile → Type 0
 AllHaveTypes [] = Unit {0}
-AllHaveTypes (file ∷ files) = ClassHasTypes file.class × AllHaveTypes files
+AllHaveTypes (file ∷ files) = FileHasTypes file × AllHaveTypes files
 
 -- the simple names of the classes of files
 abbrev pub class_names : List KFile → List Name

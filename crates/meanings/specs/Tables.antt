@@ -1,6 +1,6 @@
 -- What is declared in a program, and what is known of a world by its types.
 use Rattle.std.specs.Prelude.{◌≡◌, ◌⊎◌, ℕ, ℤ, ◌<◌, ◌==◌, Bool, true, false, List, [], ◌∷◌, length, Option, Some, None, slice_get, slice_index_or, if◌then◌else◌}
-use Rattle.meanings.specs.Values.{Name, same_name, ClassName, Field, same_field, Site, same_site, Kind, Value, Null, Integer, Units, Object, Array, Captured, Elements, Answer}
+use Rattle.meanings.specs.Values.{Name, same_name, ClassName, Field, same_field, Site, same_site, Kind, Value, Null, Integer, Units, Object, Array, Captured, Elements}
 use Rattle.meanings.specs.Outcome.{Locals, get}
 use Rattle.meanings.specs.Static.{KType, IntType, StringType, ClassType, ArrayType, Nullable}
 use Rattle.meanings.specs.World.{World, ClassState, Untouched, Running, IsReady, IsFailed, state_of, content_at, stored}
@@ -16,9 +16,11 @@ pub record Table : Type 0 where
   pub methods : List Signature
   pub constructors : List Signature
   pub field_type : Field → KType
+  pub required : Field → Bool
   -- the required fields of an object of a class, inherited ones among them
   pub needs : ClassName → Field → Bool
   pub static_type : Field → KType
+  pub static_required : Field → Bool
   -- the required statics of a class
   pub needs_static : ClassName → Field → Bool
   -- the initializers of a calm class call nothing (own rule)
@@ -37,6 +39,17 @@ find (m ∷ ms) site = if same_site m.site site then Some m else find ms site
 abbrev pub type_in : List (Name × KType) → Name → Option KType
 type_in [] name = None
 type_in (e ∷ rows) name = if same_name e.0 name then Some e.1 else type_in rows name
+
+-- a default is of its type
+abbrev pub Fits : Value → KType → Type 0
+Fits v (Nullable type) = v ≡ Null
+Fits v IntType = (kind : Kind) × (z : ℤ) × (v ≡ Integer kind z)
+Fits v _ = ⊥
+
+-- the default of each place that isn't required is of its type
+pub record TypedDefaults (t : Table) : Type 0 where
+  pub fields : (f : Field) → t.required f ≡ false → Fits (stored t.defaults f Null) (t.field_type f)
+  pub statics : (f : Field) → t.static_required f ≡ false → Fits (stored t.defaults f Null) (t.static_type f)
 
 -- ---- what is known of a world
 
