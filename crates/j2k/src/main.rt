@@ -17,10 +17,10 @@ fn main(rt: HostRuntime) -> ExitCode {
         Ok(words) => {
             let mut disk = RealDisk::new(&rt);
             let mut out = RealSink::new(&rt);
-            ExitCode::from(run(rt.alloc(), &words, &mut disk, &mut out) as u8)
+            ExitCode::from(run(rt.alloc(), &words, &mut disk, &mut out).number())
         }
         Err(error) if error.kind() == ErrorKind::OutOfMemory => {
-            ExitCode::from(Status::NoMemory as u8)
+            ExitCode::from(Status::NoMemory.number())
         }
         Err(_) => ExitCode::from(WORDS_REFUSED),
     }

@@ -9,8 +9,8 @@ use Rattle.toml.specs.Parse.{parse_document}
 use Rattle.toml.specs.Data.{Data, Items, item, Members, no_members, member, string, integer, float, boolean, datetime, array, table, as_str, as_array, push_item}
 use Rattle.toml.specs.declared.value.Value.{Value}
 use Rattle.toml.specs.View.{view, items_view, members_view}
+use Rattle.std.specs.Prelude.{codes}
 use Rattle.j2k_settings.specs.Settings.{array_of, SetsTable, Sets}
-use Rattle.j2k_settings.specs.declared.reading.TheConstants.{ENTRIES}
 
 -- one more string at the end
 pub array_push : (texts : List (List ℕ)) (text : List ℕ) → array_of (texts ++ text ∷ []) ≡ push_item (array_of texts) (string text)
@@ -64,10 +64,10 @@ array_once (text ∷ texts) (other ∷ others) e =
 -- a table of settings has one list of entries
 pub table_once : (content : Members) (entries others : List (List ℕ)) → SetsTable content entries → SetsTable content others → entries ≡ others
 table_once content entries others (inl p) (inl q) = p.1 ∙ sym q.1
-table_once content entries others (inl p) (inr q) = let apart : no_members ≡ member ENTRIES.now (array (array_of others)) no_members = sym p.0 ∙ q in cc
-table_once content entries others (inr p) (inl q) = let apart : no_members ≡ member ENTRIES.now (array (array_of entries)) no_members = sym q.0 ∙ p in cc
+table_once content entries others (inl p) (inr q) = let apart : no_members ≡ member (codes "entries") (array (array_of others)) no_members = sym p.0 ∙ q in cc
+table_once content entries others (inr p) (inl q) = let apart : no_members ≡ member (codes "entries") (array (array_of entries)) no_members = sym q.0 ∙ p in cc
 table_once content entries others (inr p) (inr q) =
-    let same : member ENTRIES.now (array (array_of entries)) no_members ≡ member ENTRIES.now (array (array_of others)) no_members = sym p ∙ q in
+    let same : member (codes "entries") (array (array_of entries)) no_members ≡ member (codes "entries") (array (array_of others)) no_members = sym p ∙ q in
     let arrays : array_of entries ≡ array_of others = cc in array_once entries others arrays
 
 -- and so do bytes
@@ -86,19 +86,19 @@ two_keys (e ∷ f ∷ es) h entries (inr p) = cc
 
 -- the first key and its value
 head_is : (es : List Entry) (key : String Global) (value : Value) (entries : List (List ℕ)) → slice_get es 0 ≡ Some (key, value) → SetsTable (members_view es) entries
-    → (string_bytes key ≡ ENTRIES.now) × (view value ≡ array (array_of entries))
+    → (string_bytes key ≡ (codes "entries")) × (view value ≡ array (array_of entries))
 head_is [] key value entries first sets = cc
 head_is (e ∷ es) key value entries first (inl p) = let apart = p.0 in cc
 head_is (e ∷ es) key value entries first (inr p) =
     let same : e ≡ (key, value) = cc in
-    let name : string_bytes e.0 ≡ ENTRIES.now = cc in
+    let name : string_bytes e.0 ≡ (codes "entries") = cc in
     let value_is : view e.1 ≡ array (array_of entries) = cc in
     (ap (λ (x : Entry). string_bytes x.0) (sym same) ∙ name, ap (λ (x : Entry). view x.1) (sym same) ∙ value_is)
 
-pub other_key : (es : List Entry) (key : String Global) (value : Value) (name : List ℕ) → slice_get es 0 ≡ Some (key, value) → name ≡ string_bytes key → true ≡ not (bytes_eq name ENTRIES.now) → (entries : List (List ℕ)) → SetsTable (members_view es) entries → ⊥
+pub other_key : (es : List Entry) (key : String Global) (value : Value) (name : List ℕ) → slice_get es 0 ≡ Some (key, value) → name ≡ string_bytes key → true ≡ not (bytes_eq name (codes "entries")) → (entries : List (List ℕ)) → SetsTable (members_view es) entries → ⊥
 other_key es key value name first is apart entries sets =
-    let same : name ≡ ENTRIES.now = is ∙ (head_is es key value entries first sets).0 in
-    grind (arith, nat_tests, bytes_eq-Decides name ENTRIES.now, same, apart)
+    let same : name ≡ (codes "entries") = is ∙ (head_is es key value entries first sets).0 in
+    grind (arith, nat_tests, bytes_eq-Decides name (codes "entries"), same, apart)
 
 pub no_array : (es : List Entry) (key : String Global) (value : Value) → slice_get es 0 ≡ Some (key, value) → None ≡ as_array (view value) → (entries : List (List ℕ)) → SetsTable (members_view es) entries → ⊥
 no_array es key value first none entries sets = let is : view value ≡ array (array_of entries) = (head_is es key value entries first sets).1 in
@@ -109,14 +109,14 @@ one_key [] key value short first = cc
 one_key (e ∷ []) key value short first = cc
 one_key (e ∷ f ∷ es) key value short first = absurd (omega arith)
 
-pub array_found : {E : Type 0} (es : List Entry) (key : String Global) (value : Value) (name : List ℕ) (items : Items) (result : Result (Option (List (List ℕ))) E) → length es ≤ 1 → slice_get es 0 ≡ Some (key, value) → name ≡ string_bytes key → false ≡ not (bytes_eq name ENTRIES.now)
+pub array_found : {E : Type 0} (es : List Entry) (key : String Global) (value : Value) (name : List ℕ) (items : Items) (result : Result (Option (List (List ℕ))) E) → length es ≤ 1 → slice_get es 0 ≡ Some (key, value) → name ≡ string_bytes key → false ≡ not (bytes_eq name (codes "entries"))
     → Some items ≡ as_array (view value) → IfOk result (λ found. IfSome found (λ entries. items ≡ array_of entries)) → IfOk result (λ found. IfSome found (λ entries. SetsTable (members_view es) entries))
 array_found es key value name items (Err e) short first named same is found = tt
 array_found es key value name items (Ok None) short first named same is found = tt
 array_found es key value name items (Ok (Some entries)) short first named same is found =
-    let key_is : name ≡ ENTRIES.now = grind (arith, nat_tests, bytes_eq-Decides name ENTRIES.now, same) in
+    let key_is : name ≡ (codes "entries") = grind (arith, nat_tests, bytes_eq-Decides name (codes "entries"), same) in
     inr (ap members_view (one_key es key value short first) ∙ ap (λ (n : List ℕ). member n (view value) no_members) (sym named ∙ key_is)
-    ∙ ap (λ (d : Data). member ENTRIES.now d no_members) (is_array (view value) items (sym is)) ∙ ap (λ (ds : Items). member ENTRIES.now (array ds) no_members) found)
+    ∙ ap (λ (d : Data). member (codes "entries") d no_members) (is_array (view value) items (sym is)) ∙ ap (λ (ds : Items). member (codes "entries") (array ds) no_members) found)
 
 pub array_none : {E : Type 0} (es : List Entry) (key : String Global) (value : Value) (items : Items) (result : Result (Option (List (List ℕ))) E) → slice_get es 0 ≡ Some (key, value)
     → Some items ≡ as_array (view value) → IfOk result (λ found. IfNone found ((entries : List (List ℕ)) → items ≡ array_of entries → ⊥)) → IfOk result (λ found. IfNone found ((entries : List (List ℕ)) → SetsTable (members_view es) entries → ⊥))

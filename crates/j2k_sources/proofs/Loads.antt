@@ -11,11 +11,9 @@ use Rattle.j2k_base.specs.declared.series.SourceFile.{SourceFile}
 use Rattle.j2k_base.specs.declared.places.Fault.{Fault as FaultAt}
 use Rattle.j2k_io.specs.Disks.{Files, in_folder, listing}
 use Rattle.j2k_io.proofs.LawsToCite.{listed_is_held}
-use Rattle.j2k_settings.specs.declared.reading.TheConstants.{SETTINGS_FILE}
-use Rattle.j2k_settings.specs.Settings.{Sets, bad_settings}
+use Rattle.j2k_settings.specs.Settings.{Sets, bad_settings, settings_file}
 use Rattle.j2k_sources.specs.declared.limits.Excess.{Excess}
-use Rattle.j2k_sources.specs.declared.limits.TheConstants.{MAX_SETTINGS_BYTES}
-use Rattle.j2k_sources.specs.Sources.{is_java, bytes_at, source_at, has_settings, SetsWhere, HasEntries, of_limit, settings_excess, files_excess, AreListed}
+use Rattle.j2k_sources.specs.Sources.{is_java, bytes_at, source_at, has_settings, SetsWhere, HasEntries, most_settings_bytes, of_limit, settings_excess, files_excess, AreListed}
 
 -- ---- one file after another
 
@@ -57,12 +55,12 @@ any_lists name (path ∷ paths) e = by_test (any_lists name paths) (bytes_eq nam
     by_test others true same e = inl (sym (same_bytes name path same))
     by_test others false same e = inr (others e)
 
-pub settings_held : (held : Option Files) (src path : List ℕ) (paths : List (List ℕ)) → IfSome held (λ files. paths ≡ listing src files) → path ≡ SETTINGS_FILE.now → list_any (bytes_eq SETTINGS_FILE.now) paths ≡ true
+pub settings_held : (held : Option Files) (src path : List ℕ) (paths : List (List ℕ)) → IfSome held (λ files. paths ≡ listing src files) → path ≡ settings_file → list_any (bytes_eq settings_file) paths ≡ true
     → IfSome held (λ files. IsTrue (finite.contains_key files (in_folder src path)))
 settings_held None src path paths listed is has = tt
 settings_held (Some files) src path paths listed is has =
     subst (λ (p : List ℕ). IsTrue (finite.contains_key files (in_folder src p))) (sym is)
-    (listed_is_held src SETTINGS_FILE.now files (subst (λ (ps : List (List ℕ)). Lists ps SETTINGS_FILE.now) listed (any_lists SETTINGS_FILE.now paths has)))
+    (listed_is_held src settings_file files (subst (λ (ps : List (List ℕ)). Lists ps settings_file) listed (any_lists settings_file paths has)))
 
 -- a file that was read is the one in its place
 held_bytes : (file : Option (List ℕ)) (bytes : List ℕ) → IsTrue (is_some file) → IfSome file (λ file. bytes ≡ file) → unwrap_or file [] ≡ bytes
@@ -77,57 +75,57 @@ not_longer : (limit n : ℕ) → n ≤ limit → nat_lt limit n ≡ false
 not_longer limit n h = grind (arith, nat_tests)
 
 -- the settings that are listed
-module _ (src path : List ℕ) (paths : List (List ℕ)) (files : Files) (listed : paths ≡ listing src files) (is : path ≡ SETTINGS_FILE.now) (has : list_any (bytes_eq SETTINGS_FILE.now) paths ≡ true) where
+module _ (src path : List ℕ) (paths : List (List ℕ)) (files : Files) (listed : paths ≡ listing src files) (is : path ≡ settings_file) (has : list_any (bytes_eq settings_file) paths ≡ true) where
   there : has_settings src files ≡ true
-  there = ap (list_any (bytes_eq SETTINGS_FILE.now)) (sym listed) ∙ has
+  there = ap (list_any (bytes_eq settings_file)) (sym listed) ∙ has
 
   is_held : IsTrue (finite.contains_key files (in_folder src path))
   is_held = settings_held (Some files) src path paths listed is has
 
-  too_long : IfSome (finite.get files (in_folder src path)) (λ file. MAX_SETTINGS_BYTES < length file) → settings_excess src files ≡ of_limit SETTINGS_FILE.now MAX_SETTINGS_BYTES
+  too_long : IfSome (finite.get files (in_folder src path)) (λ file. most_settings_bytes < length file) → settings_excess src files ≡ of_limit settings_file most_settings_bytes
   too_long longer =
-      let long : nat_lt MAX_SETTINGS_BYTES (length (bytes_at src files path)) ≡ true = held_longer (finite.get files (in_folder src path)) MAX_SETTINGS_BYTES is_held longer in
-      ap (λ (p : List ℕ). cond (has_settings src files && nat_lt MAX_SETTINGS_BYTES (length (bytes_at src files p))) (of_limit SETTINGS_FILE.now MAX_SETTINGS_BYTES) None) (sym is)
-      ∙ ap (λ b. cond (b && nat_lt MAX_SETTINGS_BYTES (length (bytes_at src files path))) (of_limit SETTINGS_FILE.now MAX_SETTINGS_BYTES) None) there
-      ∙ ap (λ b. cond b (of_limit SETTINGS_FILE.now MAX_SETTINGS_BYTES) None) long
+      let long : nat_lt most_settings_bytes (length (bytes_at src files path)) ≡ true = held_longer (finite.get files (in_folder src path)) most_settings_bytes is_held longer in
+      ap (λ (p : List ℕ). cond (has_settings src files && nat_lt most_settings_bytes (length (bytes_at src files p))) (of_limit settings_file most_settings_bytes) None) (sym is)
+      ∙ ap (λ b. cond (b && nat_lt most_settings_bytes (length (bytes_at src files path))) (of_limit settings_file most_settings_bytes) None) there
+      ∙ ap (λ b. cond b (of_limit settings_file most_settings_bytes) None) long
 
-  bytes_are : (bytes : List ℕ) → IfSome (finite.get files (in_folder src path)) (λ file. bytes ≡ file) → bytes_at src files SETTINGS_FILE.now ≡ bytes
+  bytes_are : (bytes : List ℕ) → IfSome (finite.get files (in_folder src path)) (λ file. bytes ≡ file) → bytes_at src files settings_file ≡ bytes
   bytes_are bytes read = ap (bytes_at src files) (sym is) ∙ held_bytes (finite.get files (in_folder src path)) bytes is_held read
 
-  short : (bytes : List ℕ) → IfSome (finite.get files (in_folder src path)) (λ file. bytes ≡ file) → length bytes ≤ MAX_SETTINGS_BYTES → settings_excess src files ≡ None
+  short : (bytes : List ℕ) → IfSome (finite.get files (in_folder src path)) (λ file. bytes ≡ file) → length bytes ≤ most_settings_bytes → settings_excess src files ≡ None
   short bytes read h =
-      ap (λ (bs : List ℕ). cond (has_settings src files && nat_lt MAX_SETTINGS_BYTES (length bs)) (of_limit SETTINGS_FILE.now MAX_SETTINGS_BYTES) None) (bytes_are bytes read)
-      ∙ ap (λ b. cond (b && nat_lt MAX_SETTINGS_BYTES (length bytes)) (of_limit SETTINGS_FILE.now MAX_SETTINGS_BYTES) None) there
-      ∙ ap (λ b. cond b (of_limit SETTINGS_FILE.now MAX_SETTINGS_BYTES) None) (not_longer MAX_SETTINGS_BYTES (length bytes) h)
+      ap (λ (bs : List ℕ). cond (has_settings src files && nat_lt most_settings_bytes (length bs)) (of_limit settings_file most_settings_bytes) None) (bytes_are bytes read)
+      ∙ ap (λ b. cond (b && nat_lt most_settings_bytes (length bytes)) (of_limit settings_file most_settings_bytes) None) there
+      ∙ ap (λ b. cond b (of_limit settings_file most_settings_bytes) None) (not_longer most_settings_bytes (length bytes) h)
 
   meaning : (bytes : List ℕ) → IfSome (finite.get files (in_folder src path)) (λ file. bytes ≡ file) → (entries : List (List ℕ)) → HasEntries src files entries ≡ Sets bytes entries
-  meaning bytes read entries = ap (λ b. SetsWhere b (bytes_at src files SETTINGS_FILE.now) entries) there ∙ ap (λ (bs : List ℕ). Sets bs entries) (bytes_are bytes read)
+  meaning bytes read entries = ap (λ b. SetsWhere b (bytes_at src files settings_file) entries) there ∙ ap (λ (bs : List ℕ). Sets bs entries) (bytes_are bytes read)
 
-pub settings_long : (held : Option Files) (src path : List ℕ) (paths : List (List ℕ)) (excess : Excess) → IfSome held (λ files. paths ≡ listing src files) → path ≡ SETTINGS_FILE.now → list_any (bytes_eq SETTINGS_FILE.now) paths ≡ true
-    → IfSome held (λ files. IfSome (finite.get files (in_folder src path)) (λ file. MAX_SETTINGS_BYTES < length file)) → excess ≡ record { what = SETTINGS_FILE.now; limit = MAX_SETTINGS_BYTES } → IfSome held (λ files. settings_excess src files ≡ Some excess)
+pub settings_long : (held : Option Files) (src path : List ℕ) (paths : List (List ℕ)) (excess : Excess) → IfSome held (λ files. paths ≡ listing src files) → path ≡ settings_file → list_any (bytes_eq settings_file) paths ≡ true
+    → IfSome held (λ files. IfSome (finite.get files (in_folder src path)) (λ file. most_settings_bytes < length file)) → excess ≡ record { what = settings_file; limit = most_settings_bytes } → IfSome held (λ files. settings_excess src files ≡ Some excess)
 settings_long None src path paths excess listed is has longer same = tt
 settings_long (Some files) src path paths excess listed is has longer same = too_long src path paths files listed is has longer ∙ ap Some (sym same)
 
-pub settings_read : (held : Option Files) (src path bytes : List ℕ) (paths entries : List (List ℕ)) → IfSome held (λ files. paths ≡ listing src files) → path ≡ SETTINGS_FILE.now → list_any (bytes_eq SETTINGS_FILE.now) paths ≡ true
-    → IfSome held (λ files. IfSome (finite.get files (in_folder src path)) (λ file. bytes ≡ file)) → length bytes ≤ MAX_SETTINGS_BYTES → Sets bytes entries → IfSome held (λ files. HasEntries src files entries × (settings_excess src files ≡ None))
+pub settings_read : (held : Option Files) (src path bytes : List ℕ) (paths entries : List (List ℕ)) → IfSome held (λ files. paths ≡ listing src files) → path ≡ settings_file → list_any (bytes_eq settings_file) paths ≡ true
+    → IfSome held (λ files. IfSome (finite.get files (in_folder src path)) (λ file. bytes ≡ file)) → length bytes ≤ most_settings_bytes → Sets bytes entries → IfSome held (λ files. HasEntries src files entries × (settings_excess src files ≡ None))
 settings_read None src path bytes paths entries listed is has read h sets = tt
 settings_read (Some files) src path bytes paths entries listed is has read h sets =
     (subst (λ (T : Type 0). T) (sym (meaning src path paths files listed is has bytes read entries)) sets, short src path paths files listed is has bytes read h)
 
-pub settings_refused : (held : Option Files) (src path bytes : List ℕ) (paths : List (List ℕ)) (fault : FaultAt) → IfSome held (λ files. paths ≡ listing src files) → path ≡ SETTINGS_FILE.now → list_any (bytes_eq SETTINGS_FILE.now) paths ≡ true
-    → IfSome held (λ files. IfSome (finite.get files (in_folder src path)) (λ file. bytes ≡ file)) → length bytes ≤ MAX_SETTINGS_BYTES → (fault ≡ bad_settings) × ((entries : List (List ℕ)) → Sets bytes entries → ⊥)
+pub settings_refused : (held : Option Files) (src path bytes : List ℕ) (paths : List (List ℕ)) (fault : FaultAt) → IfSome held (λ files. paths ≡ listing src files) → path ≡ settings_file → list_any (bytes_eq settings_file) paths ≡ true
+    → IfSome held (λ files. IfSome (finite.get files (in_folder src path)) (λ file. bytes ≡ file)) → length bytes ≤ most_settings_bytes → (fault ≡ bad_settings) × ((entries : List (List ℕ)) → Sets bytes entries → ⊥)
     → IfSome held (λ files. (fault ≡ bad_settings) × ((entries : List (List ℕ)) → HasEntries src files entries → ⊥) × (settings_excess src files ≡ None))
 settings_refused None src path bytes paths fault listed is has read h refused = tt
 settings_refused (Some files) src path bytes paths fault listed is has read h refused =
     (refused.0, λ entries has_entries. refused.1 entries (subst (λ (T : Type 0). T) (meaning src path paths files listed is has bytes read entries) has_entries), short src path paths files listed is has bytes read h)
 
-pub no_settings : (held : Option Files) (src : List ℕ) (paths entries : List (List ℕ)) → IfSome held (λ files. paths ≡ listing src files) → list_any (bytes_eq SETTINGS_FILE.now) paths ≡ false → entries ≡ []
+pub no_settings : (held : Option Files) (src : List ℕ) (paths entries : List (List ℕ)) → IfSome held (λ files. paths ≡ listing src files) → list_any (bytes_eq settings_file) paths ≡ false → entries ≡ []
     → IfSome held (λ files. HasEntries src files entries × (settings_excess src files ≡ None))
 no_settings None src paths entries listed has none = tt
 no_settings (Some files) src paths entries listed has none =
-    let absent : has_settings src files ≡ false = ap (list_any (bytes_eq SETTINGS_FILE.now)) (sym listed) ∙ has in (
-      subst (λ b. SetsWhere b (bytes_at src files SETTINGS_FILE.now) entries) (sym absent) none,
-      ap (λ b. cond (b && nat_lt MAX_SETTINGS_BYTES (length (bytes_at src files SETTINGS_FILE.now))) (of_limit SETTINGS_FILE.now MAX_SETTINGS_BYTES) None) absent,
+    let absent : has_settings src files ≡ false = ap (list_any (bytes_eq settings_file)) (sym listed) ∙ has in (
+      subst (λ b. SetsWhere b (bytes_at src files settings_file) entries) (sym absent) none,
+      ap (λ b. cond (b && nat_lt most_settings_bytes (length (bytes_at src files settings_file))) (of_limit settings_file most_settings_bytes) None) absent,
     )
 
 pub java_listed : (held now : Option Files) (src : List ℕ) (paths java : List (List ℕ)) → now ≡ held → IfSome held (λ files. paths ≡ listing src files) → java ≡ filter is_java paths → IfSome now (λ files. AreListed src files java)

@@ -3,11 +3,11 @@ use Rattle.std.proofs.Common.{◌≡◌, inl, inr, ℕ, Bool, true, false, List,
 use Rattle.j2k_base.specs.declared.series.SourceFile.{SourceFile}
 use Rattle.j2k_io.specs.Disks.{Files}
 use Rattle.j2k_settings.proofs.LawsToCite.{sets_once}
-use Rattle.j2k_settings.specs.declared.reading.TheConstants.{SETTINGS_FILE}
 use Rattle.j2k_sources.specs.declared.limits.Excess.{Excess}
 use Rattle.j2k_sources.specs.declared.loading.Sources.{Sources}
 use Rattle.j2k_sources.specs.declared.loading.Loaded.{Loaded}
 use Rattle.j2k_sources.specs.declared.loading.Loaded.TheVariants.{Whole, TooLarge, Refused}
+use Rattle.j2k_settings.specs.Settings.{settings_file}
 use Rattle.j2k_sources.specs.Sources.{bytes_at, has_settings, SetsWhere, HasEntries, Exceeds, HasBadSettings, HasSources, IsLoaded}
 
 where_once : (b : Bool) (bytes : List ℕ) (entries others : List (List ℕ)) → SetsWhere b bytes entries → SetsWhere b bytes others → entries ≡ others
@@ -15,7 +15,7 @@ where_once true bytes entries others p q = sets_once bytes entries others p q
 where_once false bytes entries others p q = p ∙ sym q
 
 entries_once : (src : List ℕ) (files : Files) (entries others : List (List ℕ)) → HasEntries src files entries → HasEntries src files others → entries ≡ others
-entries_once src files entries others = where_once (has_settings src files) (bytes_at src files SETTINGS_FILE.now) entries others
+entries_once src files entries others = where_once (has_settings src files) (bytes_at src files settings_file) entries others
 
 excess_once : (src : List ℕ) (files : Files) (a b : Excess) → Exceeds src files a → Exceeds src files b → a ≡ b
 excess_once src files a b (inl p) (inl q) = let e = sym p ∙ q in cc

@@ -1,16 +1,13 @@
 -- The files of a project under a folder, and the limits on them.
-use Rattle.std.specs.Prelude.{◌≡◌, ◌≤◌, ◌⊎◌, ℕ, ◌+◌, nat_lt, List, [], ◌∷◌, length, map, filter, nat_eq, Bool, true, false, IsTrue, ◌&&◌, Option, Some, None, if◌then◌else◌, unwrap_or}
+use Rattle.std.specs.Prelude.{◌≡◌, ◌≤◌, ◌⊎◌, ℕ, ◌+◌, nat_lt, List, [], ◌∷◌, length, map, filter, nat_eq, Bool, true, false, IsTrue, ◌&&◌, Option, Some, None, if◌then◌else◌, unwrap_or, codes}
 use Rattle.std.specs.List.{All, ends_with, list_any}
 use Rattle.std.specs.Str.{bytes_eq}
 use Rattle.std.specs.FinMap as finite
 use Rattle.j2k_base.specs.Lists.{Lists}
 use Rattle.j2k_base.specs.declared.series.SourceFile.{SourceFile}
 use Rattle.j2k_io.specs.Disks.{Files, in_folder, listing}
-use Rattle.j2k_settings.specs.declared.reading.TheConstants.{SETTINGS_FILE}
-use Rattle.j2k_settings.specs.Settings.{Sets, bad_settings}
+use Rattle.j2k_settings.specs.Settings.{Sets, bad_settings, settings_file}
 use Rattle.j2k_sources.specs.declared.limits.Excess.{Excess}
-use Rattle.j2k_sources.specs.declared.limits.TheConstants.{MAX_FILES, MAX_FILE_BYTES, MAX_TOTAL_BYTES, MAX_SETTINGS_BYTES, FILES, TOTAL}
-use Rattle.j2k_sources.specs.declared.loading.TheConstants.{JAVA_END}
 use Rattle.j2k_sources.specs.declared.loading.Loaded.{Loaded}
 use Rattle.j2k_sources.specs.declared.loading.Loaded.TheVariants as loaded
 use Rattle.j2k_sources.specs.declared.loading.SettingsRead.{SettingsRead}
@@ -20,8 +17,12 @@ use Rattle.j2k_sources.specs.declared.loading.FilesRead.TheVariants as files_rea
 use Rattle.j2k_sources.specs.declared.loading.FileRead.{FileRead}
 use Rattle.j2k_sources.specs.declared.loading.FileRead.TheVariants as file_read
 
+-- the end of a Java file's name
+abbrev pub java_end : List ℕ
+java_end = codes ".java"
+
 abbrev pub is_java : List ℕ → Bool
-is_java path = ends_with nat_eq path JAVA_END.now
+is_java path = ends_with nat_eq path java_end
 
 -- the Java files under a folder, in the order of their paths
 abbrev pub java_paths : List ℕ → Files → List (List ℕ)
@@ -42,7 +43,7 @@ Differ (path ∷ paths) = (Lists paths path → ⊥) × Differ paths
 -- ---- settings
 
 abbrev pub has_settings : List ℕ → Files → Bool
-has_settings src files = list_any (bytes_eq SETTINGS_FILE.now) (listing src files)
+has_settings src files = list_any (bytes_eq settings_file) (listing src files)
 
 -- a folder without the file has no entries
 abbrev pub SetsWhere : Bool → List ℕ → List (List ℕ) → Type 0
@@ -51,9 +52,23 @@ SetsWhere false bytes entries = entries ≡ []
 
 -- the settings under a folder name these entries
 abbrev pub HasEntries : List ℕ → Files → List (List ℕ) → Type 0
-HasEntries src files entries = SetsWhere (has_settings src files) (bytes_at src files SETTINGS_FILE.now) entries
+HasEntries src files entries = SetsWhere (has_settings src files) (bytes_at src files settings_file) entries
 
 -- ---- limits
+
+-- the Java files of a project
+abbrev pub most_files : ℕ
+most_files = 2000
+
+-- the bytes of a Java file, of all of them, and of the settings
+abbrev pub most_file_bytes : ℕ
+most_file_bytes = 1048576
+
+abbrev pub most_bytes : ℕ
+most_bytes = 16777216
+
+abbrev pub most_settings_bytes : ℕ
+most_settings_bytes = 65536
 
 abbrev pub of_limit : List ℕ → ℕ → Option Excess
 of_limit what limit = Some (record { what = what; limit = limit })
@@ -65,18 +80,18 @@ or_else (Some a) b = Some a
 
 -- there are too many Java files
 abbrev pub number_excess : List ℕ → Files → Option Excess
-number_excess src files = if nat_lt MAX_FILES (length (java_paths src files)) then of_limit FILES.now MAX_FILES else None
+number_excess src files = if nat_lt most_files (length (java_paths src files)) then of_limit (codes "files") most_files else None
 
 -- the file of the settings is too long
 abbrev pub settings_excess : List ℕ → Files → Option Excess
 settings_excess src files =
-    if has_settings src files && nat_lt MAX_SETTINGS_BYTES (length (bytes_at src files SETTINGS_FILE.now)) then of_limit SETTINGS_FILE.now MAX_SETTINGS_BYTES else None
+    if has_settings src files && nat_lt most_settings_bytes (length (bytes_at src files settings_file)) then of_limit settings_file most_settings_bytes else None
 
 -- a Java file is too long, or with it all are, after so many bytes of others
 abbrev pub file_excess : List ℕ → Files → ℕ → List ℕ → Option Excess
 file_excess src files sum path =
-    if nat_lt MAX_FILE_BYTES (length (bytes_at src files path)) then of_limit path MAX_FILE_BYTES
-    else (if nat_lt MAX_TOTAL_BYTES (sum + length (bytes_at src files path)) then of_limit TOTAL.now MAX_TOTAL_BYTES else None)
+    if nat_lt most_file_bytes (length (bytes_at src files path)) then of_limit path most_file_bytes
+    else (if nat_lt most_bytes (sum + length (bytes_at src files path)) then of_limit (codes "total") most_bytes else None)
 
 -- the first of these files of which that holds
 abbrev pub files_excess : List ℕ → Files → ℕ → List (List ℕ) → Option Excess
@@ -137,12 +152,12 @@ IsFile src files sum path (file_read.TooLarge excess) = file_excess src files su
 
 -- with this file all aren't too long
 abbrev pub IsWithinTotal : ℕ → FileRead → Type 0
-IsWithinTotal sum (file_read.Whole source) = sum + length source.bytes ≤ MAX_TOTAL_BYTES
+IsWithinTotal sum (file_read.Whole source) = sum + length source.bytes ≤ most_bytes
 IsWithinTotal sum (file_read.TooLarge excess) = Unit {0}
 
 -- each file is of no more bytes than all may have
 abbrev pub AreSmall : List SourceFile → Type 0
-AreSmall files = All (λ file. length file.bytes ≤ MAX_TOTAL_BYTES) files
+AreSmall files = All (λ file. length file.bytes ≤ most_bytes) files
 
 abbrev pub AreSmallFiles : FilesRead → Type 0
 AreSmallFiles (files_read.Whole sources) = AreSmall sources

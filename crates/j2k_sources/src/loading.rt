@@ -6,7 +6,8 @@ ghost use Rattle.std.specs.FinMap as finite;
 ghost use Rattle.j2k_base.specs.Lists.{Lists};
 ghost use Rattle.j2k_io.specs.Disks.{in_folder, listing};
 ghost use Rattle.j2k_sources.specs.Causes.{HasCauses};
-ghost use Rattle.j2k_sources.specs.Sources.{is_java as is_java_by, java_paths as java_paths_by, has_settings, AreListed, IsLoaded, IsSettings, IsFiles, IsFile, IsWithinTotal, AreSmallFiles, IsSmall};
+ghost use Rattle.j2k_settings.specs.Settings.{settings_file};
+ghost use Rattle.j2k_sources.specs.Sources.{most_bytes, is_java as is_java_by, java_paths as java_paths_by, has_settings, AreListed, IsLoaded, IsSettings, IsFiles, IsFile, IsWithinTotal, AreSmallFiles, IsSmall};
 
 use crate::halt::{Halt, read};
 use crate::limits::{
@@ -95,7 +96,7 @@ enum SettingsRead {
 }
 
 fn lists_settings(paths: &[Text]) -> bool
-    ensures { result ≡ list_any (bytes_eq SETTINGS_FILE.now) paths.now }
+    ensures { result ≡ list_any (bytes_eq settings_file) paths.now }
 {
     paths.iter().any(|path| SETTINGS_FILE == path.as_str())
 }
@@ -180,7 +181,7 @@ fn read_file<D: Disk>(
     disk: &mut D,
 ) -> Result<FileRead, Halt>
     requires listed { IfSome (D.held disk.old) (λ files. IsTrue (finite.contains_key files (in_folder src.now path.now))) }
-    requires within { sum ≤ MAX_TOTAL_BYTES }
+    requires within { sum ≤ most_bytes }
     ensures read { IfOk result (λ read. IfSome (D.held disk.old) (λ files. IsFile src.now files sum path.now read)) }
     ensures total { IfOk result (IsWithinTotal sum) }
     ensures kept { D.held disk.new ≡ D.held disk.old }

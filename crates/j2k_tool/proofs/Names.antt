@@ -12,24 +12,23 @@ use Rattle.std.proofs.lemmas.Bool.Decides.{Decides-eqb}
 use Rattle.j2k_base.specs.Lists.{Lists}
 use Rattle.j2k_base.specs.declared.series.SourceFile.{SourceFile}
 use Rattle.j2k_io.specs.Disks.{Files, listing}
-use Rattle.j2k_sources.specs.declared.loading.TheConstants.{JAVA_END}
-use Rattle.j2k_sources.specs.Sources.{is_java, java_paths, source_at, Differ}
+use Rattle.j2k_sources.specs.Sources.{is_java, java_paths, source_at, Differ, java_end}
 use Rattle.j2k_sources.proofs.LawsToCite.{sources_differ}
-use Rattle.j2k_tool.specs.declared.texts.TheConstants.{KOTLIN_END}
+use Rattle.j2k_tool.specs.Texts.{kotlin_end}
 use Rattle.j2k_tool.specs.Asks.{KotlinDiffer}
 use Rattle.j2k_tool.specs.Paths.{base_of, kotlin_path, last_or, last_part}
 use Rattle.j2k_tool.specs.Projects.{paths_of}
 use Rattle.j2k_tool.specs.Words.{is_slash}
 
 -- a path of a Java file is its base and `.java`
-base_is : (path : List ℕ) → is_java path ≡ true → path ≡ base_of path ++ JAVA_END.now
+base_is : (path : List ℕ) → is_java path ≡ true → path ≡ base_of path ++ java_end
 base_is path java =
-    (ends_is Decides-eqb path JAVA_END.now (is_java path) refl).0 java
-    ∙ ap (λ (b : List ℕ). b ++ JAVA_END.now) (sym (ap (λ b. cond b (take (length path - length JAVA_END.now) path) path) java))
+    (ends_is Decides-eqb path java_end (is_java path) refl).0 java
+    ∙ ap (λ (b : List ℕ). b ++ java_end) (sym (ap (λ b. cond b (take (length path - length java_end) path) path) java))
 
 same_kotlin : (a b : List ℕ) → is_java a ≡ true → is_java b ≡ true → kotlin_path a ≡ kotlin_path b → a ≡ b
 same_kotlin a b p q e =
-    base_is a p ∙ ap (λ (x : List ℕ). x ++ JAVA_END.now) (append_cancel_right (base_of a) (base_of b) KOTLIN_END.now e) ∙ sym (base_is b q)
+    base_is a p ∙ ap (λ (x : List ℕ). x ++ java_end) (append_cancel_right (base_of a) (base_of b) kotlin_end e) ∙ sym (base_is b q)
 
 abbrev AreJava : List (List ℕ) → Type 0
 AreJava [] = Unit {0}

@@ -70,7 +70,7 @@ module _ (sources : Sources) where
   open_once f g (inr (inr p)) (inr (inl q)) = absurd (none_first Forms [] sources.files p.1.0 q.1 p.1.1)
   open_once f g (inr (inr p)) (inr (inr q)) = p.1.2 ∙ ap (least entries_fault) (form_once_in p.1.0 q.1.0 p.1.1 q.1.1) ∙ sym q.1.2
 
-  fault_once : (f g : Fault) → IsFirstFault sources f → IsFirstFault sources g → f ≡ g
+  pub fault_once : (f g : Fault) → IsFirstFault sources f → IsFirstFault sources g → f ≡ g
   fault_once f g (inl p) (inl q) = first_once HasTokenFault token_fault_once [] sources.files f g p q
   fault_once f g (inl p) (inr (inl q)) = absurd (none_first HasTokenFault [] sources.files f q.0 p)
   fault_once f g (inl p) (inr (inr q)) = absurd (none_first HasTokenFault [] sources.files f q.0 p)

@@ -16,8 +16,9 @@ use Rattle.j2k_sources.specs.Sources.{IsLoaded, Exceeds, Differ}
 use Rattle.j2k_tool.specs.declared.files.TakenFile.{TakenFile}
 use Rattle.j2k_tool.specs.declared.project.Project.TheVariants.{Taken}
 use Rattle.j2k_tool.specs.declared.writing.Conversion.{Conversion}
+use Rattle.j2k_tool.specs.Texts.{usage_text, not_empty_text}
 use Rattle.j2k_tool.specs.Asks.{Answer, done_text, conversion_text, usage, not_empty, refused, converted, converted_text, too_large, too_large_text, ConvertsSources, ConvertsLoaded, KotlinDiffer, PathsDiffer, IsAnswer, AsksOver, AsksOf, Asks, Answered, Stopped}
-use Rattle.j2k_tool.specs.Faults.{fault_line}
+use Rattle.j2k_faults.specs.Faults.{fault_line}
 use Rattle.j2k_tool.specs.Messages.{message_text}
 use Rattle.j2k_tool.specs.Paths.{class_name, kotlin_path, with_name, names_of}
 use Rattle.j2k_tool.specs.Projects.{paths_of, AreTaken, IsFirstFault, Takes, IsJudged}
@@ -29,9 +30,8 @@ use Rattle.j2k_tool.proofs.Writes.{files_free, made_are}
 use Rattle.j2k_tool.specs.declared.status.Status.{Status}
 use Rattle.j2k_tool.specs.declared.status.Status.TheVariants.{Done, Refused, Usage, NotEmpty, TooLarge, WriteFault, NoMemory}
 use Rattle.j2k_tool.specs.declared.answers.Answer as code
-use Rattle.j2k_tool.specs.declared.texts.TheConstants.{USAGE, NOT_EMPTY, LINE_END}
 
-pub usage_answered : (held new : Option Files) (words : List (List ℕ)) (text : List ℕ) → words_mean words ≡ None → text ≡ USAGE.now → new ≡ held
+pub usage_answered : (held new : Option Files) (words : List (List ℕ)) (text : List ℕ) → words_mean words ≡ None → text ≡ usage_text → new ≡ held
     → IfSome held (λ files. Answered (Asks words files) Usage text (Some files) new)
 unfolding Asks
 usage_answered None new words text none is same = tt
@@ -49,7 +49,7 @@ first_of [] h = absurd (omega arith)
 first_of (first ∷ rest) h = (first, rest, refl)
 
 pub not_empty_answered : (held new : Option Files) (src dst : List ℕ) (there : List (List ℕ)) (text : List ℕ) → IfSome held (λ files. there ≡ listing dst files) → 0 < length there
-    → text ≡ NOT_EMPTY.now ++ dst ++ LINE_END.now → new ≡ held → IfSome held (λ files. Answered (AsksOf (Some (src, dst)) files) NotEmpty text (Some files) new)
+    → text ≡ not_empty_text dst → new ≡ held → IfSome held (λ files. Answered (AsksOf (Some (src, dst)) files) NotEmpty text (Some files) new)
 not_empty_answered None new src dst there text listed h is same = tt
 not_empty_answered (Some files) new src dst there text listed h is same =
     let one = first_of there h in

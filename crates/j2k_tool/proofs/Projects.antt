@@ -10,9 +10,8 @@ use Rattle.std.proofs.lemmas.List.Elements.{All-get_or}
 use Rattle.j2k_base.specs.declared.choices.Choice.{Choice}
 use Rattle.j2k_base.specs.declared.places.Fault.{Fault}
 use Rattle.j2k_base.specs.declared.series.SourceFile.{SourceFile}
-use Rattle.j2k_sources.specs.declared.limits.TheConstants.{MAX_TOTAL_BYTES}
 use Rattle.j2k_sources.specs.declared.loading.Sources.{Sources}
-use Rattle.j2k_sources.specs.Sources.{AreSmall}
+use Rattle.j2k_sources.specs.Sources.{AreSmall, most_bytes}
 use Rattle.j2k_tool.specs.declared.files.TakenFile.{TakenFile}
 use Rattle.j2k_tool.specs.declared.files.Found.{Found}
 use Rattle.j2k_tool.specs.declared.files.Found.TheVariants as found
@@ -133,8 +132,8 @@ module _ (files : List SourceFile) (i : ℕ) (file : SourceFile) (h : i < length
       (subst (λ (fs : List SourceFile). AreFirsts classes fs (added firsts x)) (sym taken_is)
       (more_firsts classes (take i files) file firsts x are (subst (λ (n : List (List ℕ)). IsFound classes n file x) names found)))
 
-  pub small_here : AreSmall files → length file.bytes ≤ MAX_TOTAL_BYTES
-  small_here small = subst (λ (f : SourceFile). length f.bytes ≤ MAX_TOTAL_BYTES) (sym is) (All-get_or (λ (f : SourceFile). length f.bytes ≤ MAX_TOTAL_BYTES) files i file h small)
+  pub small_here : AreSmall files → length file.bytes ≤ most_bytes
+  small_here small = subst (λ (f : SourceFile). length f.bytes ≤ most_bytes) (sym is) (All-get_or (λ (f : SourceFile). length f.bytes ≤ most_bytes) files i file h small)
 
 pub all_names : (files : List SourceFile) (i : ℕ) (names : List (List ℕ)) → length files ≤ i → names ≡ with_names [] (take i files) → names ≡ names_of files
 all_names files i names h are = are ∙ ap (with_names []) (take_all i files h)

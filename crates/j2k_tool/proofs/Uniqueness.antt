@@ -18,7 +18,7 @@ use Rattle.java_taken.specs.Units.{unit}
 use Rattle.j2k_tool.specs.declared.files.TakenFile.{TakenFile}
 use Rattle.j2k_tool.specs.declared.files.Found.{Found}
 use Rattle.j2k_tool.specs.declared.files.Found.TheVariants as found
-use Rattle.j2k_tool.specs.Faults.{not_built}
+use Rattle.j2k_faults.specs.Faults.{not_built}
 use Rattle.j2k_tool.specs.Projects.{token_fault, spelling_fault, open_form}
 use Rattle.j2k_tool.specs.Sources.{HasTokens, HasUnit, HasTokenFault, HasSpellingFault, HasOpenForm, IsTaken, IsFound}
 use Rattle.j2k_tool.proofs.Firsts.{HasOnly}

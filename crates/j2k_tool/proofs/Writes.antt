@@ -11,9 +11,9 @@ use Rattle.j2k_io.specs.Disks.{Files, in_folder, listing, with_file, with_files,
 use Rattle.j2k_io.proofs.LawsToCite.{unlisted_is_absent, apart}
 use Rattle.j2k_sources.specs.Sources.{Differ}
 use Rattle.j2k_tool.specs.declared.files.TakenFile.{TakenFile}
-use Rattle.j2k_tool.specs.declared.texts.TheConstants.{KOTLIN_END, REPORT_FILE}
 use Rattle.j2k_tool.specs.declared.writing.MadeFile.{MadeFile}
 use Rattle.j2k_tool.specs.declared.writing.Conversion.{Conversion}
+use Rattle.j2k_tool.specs.Texts.{kotlin_end, report_name}
 use Rattle.j2k_tool.specs.Paths.{base_of, kotlin_path}
 use Rattle.j2k_tool.specs.Report.{Choices, ReportText}
 use Rattle.j2k_tool.specs.Written.{placed, kotlin_file, report_file, files_of, conversion_of, placed_files, AreFree}
@@ -44,16 +44,16 @@ free held (file ∷ files) absent differ = (absent.0, free (finite.insert held f
 absent_made : (held : Files) (dst : List ℕ) → listing dst held ≡ [] → (taken : List TakenFile) (report : MadeFile) → 0 < length report.path → AreAbsent held (map (placed dst) (map kotlin_file taken ++ report ∷ []))
 absent_made held dst none [] report h = (unlisted_is_absent dst report.path held h none, tt)
 absent_made held dst none (file ∷ taken) report h =
-    let long : 0 < length (kotlin_path file.path) = omega (arith, length-append (base_of file.path) KOTLIN_END.now) in
+    let long : 0 < length (kotlin_path file.path) = omega (arith, length-append (base_of file.path) kotlin_end) in
     (unlisted_is_absent dst (kotlin_path file.path) held long none, absent_made held dst none taken report h)
 
 -- ---- their paths differ
 
 -- a report's name is no Kotlin file's
-two_names : (base : List ℕ) → REPORT_FILE.now ≢ base ++ KOTLIN_END.now
+two_names : (base : List ℕ) → report_name ≢ base ++ kotlin_end
 two_names base e =
-    let long : length base ≡ 11 = omega (arith, ap length e, length-append base KOTLIN_END.now) in
-    let byte = ap (λ (l : List ℕ). get_or l 12 0) e ∙ get_or-append_right base KOTLIN_END.now 11 12 0 long (omega arith) in
+    let long : length base ≡ 11 = omega (arith, ap length e, length-append base kotlin_end) in
+    let byte = ap (λ (l : List ℕ). get_or l 12 0) e ∙ get_or-append_right base kotlin_end 11 12 0 long (omega arith) in
     omega (arith, byte)
 
 same_place : (dst path other : List ℕ) → in_folder dst path ≡ in_folder dst other → path ≡ other
@@ -62,18 +62,18 @@ same_place dst path other e = let tails : 47 ∷ path ≡ 47 ∷ other = append_
 abbrev pub kotlin_paths : List TakenFile → List (List ℕ)
 kotlin_paths taken = map (λ file. kotlin_path file.path) taken
 
-listed_path : (dst path text : List ℕ) (taken : List TakenFile) → Lists (map (λ file. file.0) (map (placed dst) (map kotlin_file taken ++ record { path = REPORT_FILE.now; text = text } ∷ []))) (in_folder dst (kotlin_path path)) → Lists (kotlin_paths taken) (kotlin_path path)
-listed_path dst path text [] (inl same) = absurd (two_names (base_of path) (same_place dst REPORT_FILE.now (kotlin_path path) same))
+listed_path : (dst path text : List ℕ) (taken : List TakenFile) → Lists (map (λ file. file.0) (map (placed dst) (map kotlin_file taken ++ record { path = report_name; text = text } ∷ []))) (in_folder dst (kotlin_path path)) → Lists (kotlin_paths taken) (kotlin_path path)
+listed_path dst path text [] (inl same) = absurd (two_names (base_of path) (same_place dst report_name (kotlin_path path) same))
 listed_path dst path text [] (inr there) = there
 listed_path dst path text (file ∷ taken) (inl same) = inl (same_place dst (kotlin_path file.path) (kotlin_path path) same)
 listed_path dst path text (file ∷ taken) (inr there) = inr (listed_path dst path text taken there)
 
-made_differ : (dst text : List ℕ) (taken : List TakenFile) → Differ (kotlin_paths taken) → Differ (map (λ file. file.0) (map (placed dst) (map kotlin_file taken ++ record { path = REPORT_FILE.now; text = text } ∷ [])))
+made_differ : (dst text : List ℕ) (taken : List TakenFile) → Differ (kotlin_paths taken) → Differ (map (λ file. file.0) (map (placed dst) (map kotlin_file taken ++ record { path = report_name; text = text } ∷ [])))
 made_differ dst text [] differ = (λ lists. lists, tt)
 made_differ dst text (file ∷ taken) differ = (λ lists. differ.0 (listed_path dst file.path text taken lists), made_differ dst text taken differ.1)
 
 abbrev report : ℕ → List TakenFile → MadeFile
-report n taken = record { path = REPORT_FILE.now; text = ReportText n (flat_map Choices taken) }
+report n taken = record { path = report_name; text = ReportText n (flat_map Choices taken) }
 
 -- what a conversion makes is what is asked for
 pub made_are : (dst : List ℕ) (taken : List TakenFile) → placed_files dst (conversion_of taken) ≡ files_of dst taken
@@ -82,7 +82,7 @@ made_are dst taken = ap (λ (n : ℕ). map (placed dst) (map kotlin_file taken +
 -- the files of a conversion may be made in an empty folder
 free_in : (held : Files) (dst : List ℕ) (taken : List TakenFile) → listing dst held ≡ [] → Differ (kotlin_paths taken) → AreFree held (files_of dst taken)
 free_in held dst taken none differ =
-    let long : 0 < length REPORT_FILE.now = omega arith in
+    let long : 0 < length report_name = omega arith in
     free held (files_of dst taken) (absent_made held dst none taken (report_file taken) long) (made_differ dst (report_file taken).text taken differ)
 
 pub files_free : (held : Option Files) (dst : List ℕ) (taken : List TakenFile) (conversion : Conversion) → conversion ≡ conversion_of taken → IfSome held (λ files. (listing dst files ≡ []) × Differ (kotlin_paths taken))

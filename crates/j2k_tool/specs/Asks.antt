@@ -1,5 +1,5 @@
 -- What the words of a command line and the files of a disk ask for, and when it was done.
-use Rattle.std.specs.Prelude.{◌≡◌, ◌⊎◌, ℕ, ◌++◌, List, [], ◌∷◌, length, map, Option, Some, None}
+use Rattle.std.specs.Prelude.{◌≡◌, ◌⊎◌, ℕ, ◌++◌, List, [], ◌∷◌, length, map, Option, Some, None, codes}
 use Rattle.std.specs.Fmt.{decimal}
 use Rattle.std.specs.List.{count_by, flat_map}
 use Rattle.j2k_base.specs.declared.places.Fault.{Fault}
@@ -13,11 +13,10 @@ use Rattle.j2k_sources.specs.declared.loading.Loaded.TheVariants as loaded
 use Rattle.j2k_sources.specs.Sources.{IsLoaded, Differ}
 use Rattle.j2k_tool.specs.declared.files.TakenFile.{TakenFile}
 use Rattle.j2k_tool.specs.declared.writing.Conversion.{Conversion}
-use Rattle.j2k_tool.specs.declared.faults.TheConstants.{BLANK}
-use Rattle.j2k_tool.specs.declared.texts.TheConstants.{CONVERTED_FILES, CONVERTED_CLASSES, CONVERTED_CHOICES, USAGE, READ_FAULT, WRITE_FAULT, NO_MEMORY, NOT_EMPTY, TOO_LARGE, LINE_END}
 use Rattle.j2k_tool.specs.declared.status.Status.{Status}
 use Rattle.j2k_tool.specs.declared.status.Status.TheVariants.{Done, Refused, Usage, ReadFault, WriteFault, NoMemory, NotEmpty, TooLarge, OutFault}
-use Rattle.j2k_tool.specs.Faults.{fault_line}
+use Rattle.j2k_faults.specs.Faults.{fault_line, line_end}
+use Rattle.j2k_tool.specs.Texts.{usage_text, read_fault_text, write_fault_text, no_memory_text, not_empty_text}
 use Rattle.j2k_tool.specs.Paths.{kotlin_path}
 use Rattle.j2k_tool.specs.Projects.{paths_of, Takes, IsFirstFault}
 use Rattle.j2k_tool.specs.Report.{Choices, has_class}
@@ -31,17 +30,17 @@ pub record Answer : Type 0 where
   pub files : List (List ℕ × List ℕ)
 
 abbrev pub usage : Answer
-usage = record { status = Usage; text = USAGE.now; files = [] }
+usage = record { status = Usage; text = usage_text; files = [] }
 
 abbrev pub not_empty : List ℕ → Answer
-not_empty dst = record { status = NotEmpty; text = NOT_EMPTY.now ++ dst ++ LINE_END.now; files = [] }
+not_empty dst = record { status = NotEmpty; text = not_empty_text dst; files = [] }
 
 abbrev pub refused : Fault → Answer
 refused fault = record { status = Refused; text = fault_line fault; files = [] }
 
 -- `j2k: too large: WHAT LIMIT`
 abbrev pub too_large_text : Excess → List ℕ
-too_large_text excess = TOO_LARGE.now ++ excess.what ++ BLANK.now ++ decimal excess.limit ++ LINE_END.now
+too_large_text excess = codes "j2k: too large: " ++ excess.what ++ codes " " ++ decimal excess.limit ++ line_end
 
 abbrev pub too_large : Excess → Answer
 too_large excess = record { status = TooLarge; text = too_large_text excess; files = [] }
@@ -49,7 +48,7 @@ too_large excess = record { status = TooLarge; text = too_large_text excess; fil
 -- `converted: files N, classes C, choices M`
 abbrev pub done_text : ℕ → ℕ → ℕ → List ℕ
 done_text files classes choices =
-    CONVERTED_FILES.now ++ decimal files ++ CONVERTED_CLASSES.now ++ decimal classes ++ CONVERTED_CHOICES.now ++ decimal choices ++ LINE_END.now
+    codes "converted: files " ++ decimal files ++ codes ", classes " ++ decimal classes ++ codes ", choices " ++ decimal choices ++ line_end
 
 -- the files, the classes that stand in them, and the choices
 abbrev pub converted_text : List TakenFile → List ℕ
@@ -146,9 +145,11 @@ IsUnless wanted status read write out =
 abbrev pub IsGiven : Option (List ℕ) → List ℕ → Option (List ℕ) → Type 0 → Type 0
 IsGiven given text given_now failed = (given_now ≡ appended given text) ⊎ (failed × IsPartOf given text given_now)
 
--- a text that a run may print where memory ran out
-abbrev pub MayTell : (Answer → Type 0) → List ℕ → Type 0
-MayTell asks text = (text ≡ NO_MEMORY.now) ⊎ (text ≡ READ_FAULT.now) ⊎ (text ≡ WRITE_FAULT.now) ⊎ ((answer : Answer) × asks answer × (answer.text ≡ text))
+-- A text of which a run may print a part where memory ran out: the one that says so, or the one that it came to put, of a fault that
+-- came or of what was answered.
+abbrev pub MayTell : (Answer → Type 0) → Option Files → Option Files → Type 0 → Type 0 → List ℕ → Type 0
+MayTell asks old new read write text =
+    (text ≡ no_memory_text) ⊎ (read × (text ≡ read_fault_text)) ⊎ (write × (text ≡ write_fault_text)) ⊎ ((status : Status) × Answered asks status text old new)
 
 -- a status after which the files are as before
 abbrev pub KeepsFiles : Status → Type 0

@@ -4,10 +4,10 @@ use Rattle.std.specs.List.{flat_map}
 use Rattle.j2k_io.specs.Disks.{Files, in_folder, with_files}
 use Rattle.meanings.specs.declared.kotlin.KFile.{KFile}
 use Rattle.meanings.specs.KSpells.{KSpells, HasNoKeyword}
-use Rattle.meanings.specs.SameSteps.{SameSteps}
-use Rattle.meanings.specs.Static.{KTyped}
+use Rattle.meanings.specs.SameSteps.{SameSteps, EntriesAreEntered}
+use Rattle.meanings.specs.Static.{FileHasTypes}
 use Rattle.j2k_tool.specs.declared.files.TakenFile.{TakenFile}
-use Rattle.j2k_tool.specs.declared.texts.TheConstants.{REPORT_FILE}
+use Rattle.j2k_tool.specs.Texts.{report_name}
 use Rattle.j2k_tool.specs.Paths.{kotlin_path}
 use Rattle.j2k_tool.specs.Projects.{IsProject, trees_of}
 use Rattle.j2k_tool.specs.Report.{Choices, ReportText}
@@ -19,7 +19,7 @@ pub record IsWritten (dst : List ℕ) (java : TakenFile) (kotlin : KFile) (file 
   pub spelled : KSpells kotlin file.1
   pub one_kotlin : (other : KFile) → KSpells other file.1 → other ≡ kotlin
   pub no_keyword : HasNoKeyword kotlin
-  pub typed : KTyped kotlin
+  pub typed : FileHasTypes kotlin
 
 -- one file for each
 abbrev pub AreWritten : List ℕ → List TakenFile → List KFile → List (List ℕ × List ℕ) → Type 0
@@ -29,7 +29,7 @@ AreWritten dst java kotlin files = ⊥
 
 -- The words convert one folder to another. The files under the first spell Java units, one each, which are taken. A Kotlin file for each, in
 -- the same folder, and a report were written under the second, and nothing else changed. Each Kotlin file spells one Kotlin file tree, which
--- is well typed, and these, for every entry point, input, schedule and bound, make exactly the steps of the Java files under the recorded
+-- is well typed, and these, for every entry point, fitting input, schedule and bound, make exactly the steps of the Java files under the recorded
 -- names.
 pub record Headline (words : List (List ℕ)) (files : Files) (new : Option Files) : Type 0 where
   pub src : List ℕ
@@ -40,6 +40,7 @@ pub record Headline (words : List (List ℕ)) (files : Files) (new : Option File
   pub one_java : (other : List TakenFile) → IsProject src files other → other ≡ java
   pub kotlin : List KFile
   pub written : List (List ℕ × List ℕ)
-  pub made : new ≡ with_files (Some files) (written ++ (in_folder dst REPORT_FILE.now, ReportText (length java) (flat_map Choices java)) ∷ [])
+  pub made : new ≡ with_files (Some files) (written ++ (in_folder dst report_name, ReportText (length java) (flat_map Choices java)) ∷ [])
   pub spelled : AreWritten dst java kotlin written
-  pub steps : SameSteps (trees_of java) kotlin
+  pub steps : SameSteps (trees_of java) project.sources.entries kotlin
+  pub entered : EntriesAreEntered (trees_of java) project.sources.entries kotlin

@@ -1,5 +1,6 @@
+pub mod Texts
+pub mod Statuses
 pub mod Asks
-pub mod Faults
 pub mod Firsts
 pub mod Headline
 pub mod Messages

@@ -3,9 +3,8 @@ use Rattle.std.specs.Prelude.{ℕ, ◌-◌, List, [], ◌∷◌, ◌++◌, lengt
 use Rattle.std.specs.List.{list_any, slice_split}
 use Rattle.std.specs.Str.{bytes_eq}
 use Rattle.j2k_base.specs.declared.series.SourceFile.{SourceFile}
-use Rattle.j2k_sources.specs.declared.loading.TheConstants.{JAVA_END}
-use Rattle.j2k_sources.specs.Sources.{is_java}
-use Rattle.j2k_tool.specs.declared.texts.TheConstants.{KOTLIN_END}
+use Rattle.j2k_sources.specs.Sources.{is_java, java_end}
+use Rattle.j2k_tool.specs.Texts.{kotlin_end}
 use Rattle.j2k_tool.specs.Words.{is_slash}
 
 -- the last of some parts, or another where there is none
@@ -19,7 +18,7 @@ last_part path = last_or path (slice_split is_slash path)
 
 -- a path without its end `.java`
 abbrev pub base_of : List ℕ → List ℕ
-base_of path = if is_java path then take (length path - length JAVA_END.now) path else path
+base_of path = if is_java path then take (length path - length java_end) path else path
 
 -- the simple name of a public class of the file of a path (JLS 7.6)
 abbrev pub class_name : List ℕ → List ℕ
@@ -27,7 +26,7 @@ class_name path = base_of (last_part path)
 
 -- the path of the Kotlin file of a Java file: `.kt` in place of `.java`
 abbrev pub kotlin_path : List ℕ → List ℕ
-kotlin_path path = base_of path ++ KOTLIN_END.now
+kotlin_path path = base_of path ++ kotlin_end
 
 -- different names, with one more
 abbrev pub with_name : List (List ℕ) → List ℕ → List (List ℕ)

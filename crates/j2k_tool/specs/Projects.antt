@@ -6,7 +6,7 @@ use Rattle.j2k_base.specs.declared.places.Fault.{Fault}
 use Rattle.j2k_base.specs.declared.series.SourceFile.{SourceFile}
 use Rattle.java_tree.specs.declared.tokens.Position.{Position}
 use Rattle.j2k_io.specs.Disks.{Files}
-use Rattle.j2k_settings.specs.declared.reading.TheConstants.{SETTINGS_FILE}
+use Rattle.j2k_settings.specs.Settings.{settings_file}
 use Rattle.j2k_sources.specs.declared.loading.Sources.{Sources}
 use Rattle.j2k_sources.specs.Sources.{HasSources}
 use Rattle.meanings.specs.declared.java.JFile.{JFile}
@@ -17,7 +17,7 @@ use Rattle.j2k_tool.specs.declared.writing.Conversion.{Conversion}
 use Rattle.j2k_tool.specs.declared.project.Firsts.{Firsts}
 use Rattle.j2k_tool.specs.declared.project.Project.{Project}
 use Rattle.j2k_tool.specs.declared.project.Project.TheVariants.{Taken, Refused}
-use Rattle.j2k_tool.specs.Faults.{not_built}
+use Rattle.j2k_faults.specs.Faults.{not_built}
 use Rattle.j2k_tool.specs.Firsts.{FirstIn, NoneIn}
 use Rattle.j2k_tool.specs.Paths.{class_name, with_name, names_of}
 use Rattle.j2k_tool.specs.Written.{conversion_of, with_taken}
@@ -41,7 +41,7 @@ start = record { offset = 0; line = 1; column = 1 }
 
 -- Entries aren't taken yet: where the settings name one they are an open form.
 abbrev pub entries_fault : Fault
-entries_fault = not_built SETTINGS_FILE.now start
+entries_fault = not_built settings_file start
 
 -- in the order of the bytes
 abbrev pub precedes : List ℕ → List ℕ → Bool

@@ -1,5 +1,5 @@
 -- The choices of a conversion, and the report on them.
-use Rattle.std.specs.Prelude.{ℕ, List, [], ◌∷◌, ◌++◌, length, Option, Some, None, Bool, is_some}
+use Rattle.std.specs.Prelude.{ℕ, List, [], ◌∷◌, ◌++◌, length, Option, Some, None, Bool, is_some, codes}
 use Rattle.std.specs.Fmt.{decimal}
 use Rattle.std.specs.List.{flat_map}
 use Rattle.j2k_base.specs.declared.choices.ChoiceKind.{ChoiceKind}
@@ -9,34 +9,36 @@ use Rattle.java_tree.specs.declared.tokens.Position.{Position}
 use Rattle.meanings.specs.declared.java.JClass.{JClass}
 use Rattle.meanings.specs.declared.java.JMain.{JMain}
 use Rattle.j2k_tool.specs.declared.files.TakenFile.{TakenFile}
-use Rattle.j2k_tool.specs.declared.report.TheConstants.{REPORT_FILES, REPORT_CHOICES, KIND_COMPANION, KIND_PROPERTY, KIND_RENAME, KIND_WIDEN, KIND_NULLABLE, KIND_WHEN, KIND_CHAIN, KIND_RANGE, KIND_WHILE, KIND_BIND, KIND_COPY, KIND_FOLD, KIND_DROP}
-use Rattle.j2k_tool.specs.declared.faults.TheConstants.{BLANK}
-use Rattle.j2k_tool.specs.declared.texts.TheConstants.{LINE_END}
-use Rattle.j2k_tool.specs.Faults.{place_text}
+use Rattle.j2k_faults.specs.Faults.{place_text, line_end}
 
 abbrev pub kind_text : ChoiceKind → List ℕ
-kind_text Companion = KIND_COMPANION.now
-kind_text Property = KIND_PROPERTY.now
-kind_text Rename = KIND_RENAME.now
-kind_text Widen = KIND_WIDEN.now
-kind_text Nullable = KIND_NULLABLE.now
-kind_text When = KIND_WHEN.now
-kind_text Chain = KIND_CHAIN.now
-kind_text Range = KIND_RANGE.now
-kind_text While = KIND_WHILE.now
-kind_text Bind = KIND_BIND.now
-kind_text Copy = KIND_COPY.now
-kind_text Fold = KIND_FOLD.now
-kind_text Drop = KIND_DROP.now
+kind_text Companion = codes "companion"
+kind_text Property = codes "property"
+kind_text Rename = codes "rename"
+kind_text Widen = codes "widen"
+kind_text Nullable = codes "nullable"
+kind_text When = codes "when"
+kind_text Chain = codes "chain"
+kind_text Range = codes "range"
+kind_text While = codes "while"
+kind_text Bind = codes "bind"
+kind_text Copy = codes "copy"
+kind_text Fold = codes "fold"
+kind_text Drop = codes "drop"
+
+-- the text of a choice behind a blank; what is dropped has none
+abbrev pub choice_text : ChoiceKind → List ℕ → List ℕ
+choice_text Drop text = []
+choice_text _ text = codes " " ++ text
 
 -- a line of the report: `PATH:LINE:COLUMN KIND TEXT`
 abbrev pub choice_line : Choice → List ℕ
-choice_line choice = place_text choice.place ++ BLANK.now ++ kind_text choice.kind ++ BLANK.now ++ choice.text ++ LINE_END.now
+choice_line choice = place_text choice.place ++ codes " " ++ kind_text choice.kind ++ choice_text choice.kind choice.text ++ line_end
 
 -- the report on so many files and these choices
 unfoldable pub ReportText : ℕ → List Choice → List ℕ
 ReportText files choices =
-    REPORT_FILES.now ++ decimal files ++ REPORT_CHOICES.now ++ decimal (length choices) ++ LINE_END.now ++ flat_map choice_line choices
+    codes "j2k-report 1" ++ line_end ++ codes "files " ++ decimal files ++ line_end ++ codes "choices " ++ decimal (length choices) ++ line_end ++ flat_map choice_line choices
 
 -- a companion, at a position of the file of a path
 abbrev pub companion : List ℕ → Position → List ℕ → Choice

@@ -17,7 +17,7 @@ use Rattle.java_taken.specs.Units.{unit}
 use Rattle.j2k_tool.specs.declared.files.TakenFile.{TakenFile}
 use Rattle.j2k_tool.specs.declared.files.Found.{Found}
 use Rattle.j2k_tool.specs.declared.files.Found.TheVariants as found
-use Rattle.j2k_tool.specs.Faults.{not_built}
+use Rattle.j2k_faults.specs.Faults.{not_built}
 
 -- the tokens and comments of a file (JLS 3)
 pub record HasTokens (file : SourceFile) (tokens : Tokens) : Type 0 where

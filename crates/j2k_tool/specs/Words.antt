@@ -1,8 +1,7 @@
 -- What the words of a command line mean.
-use Rattle.std.specs.Prelude.{ℕ, ◌+◌, drop, List, [], ◌∷◌, length, Bool, true, false, Option, Some, None, nat_lt, ◌==◌, ◌&&◌, not, if◌then◌else◌, filter}
+use Rattle.std.specs.Prelude.{ℕ, ◌+◌, drop, List, [], ◌∷◌, length, Bool, true, false, Option, Some, None, nat_lt, ◌==◌, ◌&&◌, not, if◌then◌else◌, filter, codes}
 use Rattle.std.specs.List.{slice_split, take_while}
 use Rattle.std.specs.Str.{bytes_eq}
-use Rattle.j2k_tool.specs.declared.texts.TheConstants.{CONVERT, DOT, DOTS, SLASH}
 
 -- the byte between two parts of a path
 abbrev pub is_slash : ℕ → Bool
@@ -10,7 +9,7 @@ is_slash byte = byte == 47
 
 -- a part of a path that isn't empty and leads elsewhere
 abbrev pub is_step : List ℕ → Bool
-is_step part = not (length part == 0) && not (bytes_eq part DOT.now)
+is_step part = not (length part == 0) && not (bytes_eq part (codes "."))
 
 -- the parts of a path, without those that are empty or a dot
 abbrev pub steps : List ℕ → List (List ℕ)
@@ -29,7 +28,7 @@ is_rooted (byte ∷ path) = byte == 47
 
 -- a leading slash is a part of its own
 abbrev pub parts_left : Bool → List ℕ → List (List ℕ)
-parts_left true path = SLASH.now ∷ steps path
+parts_left true path = codes "/" ∷ steps path
 parts_left false path = steps path
 
 abbrev pub parts : List ℕ → List (List ℕ)
@@ -37,7 +36,7 @@ parts path = parts_left (is_rooted path) path
 
 -- a part that leads out of a folder
 abbrev pub leads_out : List ℕ → Bool
-leads_out part = bytes_eq part DOTS.now
+leads_out part = bytes_eq part (codes "..")
 
 -- Two paths meet where their parts are equal, or those of one begin those of the other and what is left doesn't lead out.
 abbrev pub meet : List (List ℕ) → List (List ℕ) → Bool
@@ -52,5 +51,5 @@ are_folders src dst = nat_lt 0 (length src) && nat_lt 0 (length dst) && not (mee
 
 -- the two folders of `convert SRC DST`; other words mean nothing
 abbrev pub words_mean : List (List ℕ) → Option (List ℕ × List ℕ)
-words_mean (command ∷ src ∷ dst ∷ []) = if bytes_eq command CONVERT.now && are_folders src dst then Some (src, dst) else None
+words_mean (command ∷ src ∷ dst ∷ []) = if bytes_eq command (codes "convert") && are_folders src dst then Some (src, dst) else None
 words_mean words = None

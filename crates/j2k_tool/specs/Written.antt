@@ -5,10 +5,10 @@ use Rattle.std.specs.FinMap as finite
 use Rattle.j2k_io.specs.Disks.{Files, in_folder}
 use Rattle.meanings.specs.Convert.{file_of}
 use Rattle.meanings.specs.KText.{KText}
-use Rattle.j2k_tool.specs.declared.texts.TheConstants.{REPORT_FILE}
 use Rattle.j2k_tool.specs.declared.files.TakenFile.{TakenFile}
 use Rattle.j2k_tool.specs.declared.writing.MadeFile.{MadeFile}
 use Rattle.j2k_tool.specs.declared.writing.Conversion.{Conversion}
+use Rattle.j2k_tool.specs.Texts.{report_name}
 use Rattle.j2k_tool.specs.Paths.{kotlin_path}
 use Rattle.j2k_tool.specs.Report.{Choices, ReportText, has_class}
 
@@ -21,7 +21,7 @@ abbrev pub kotlin_file : TakenFile → MadeFile
 kotlin_file taken = record { path = kotlin_path taken.path; text = KText (file_of taken.typed.file) }
 
 abbrev pub report_file : List TakenFile → MadeFile
-report_file taken = record { path = REPORT_FILE.now; text = ReportText (length taken) (flat_map Choices taken) }
+report_file taken = record { path = report_name; text = ReportText (length taken) (flat_map Choices taken) }
 
 -- the Kotlin files, and then the report
 abbrev pub files_of : List ℕ → List TakenFile → List (List ℕ × List ℕ)
@@ -43,7 +43,7 @@ with_taken conversion taken = record {
 
 -- its Kotlin files, and then the report
 abbrev pub made_by : Conversion → List MadeFile
-made_by conversion = conversion.files ++ record { path = REPORT_FILE.now; text = ReportText (length conversion.files) conversion.choices } ∷ []
+made_by conversion = conversion.files ++ record { path = report_name; text = ReportText (length conversion.files) conversion.choices } ∷ []
 
 abbrev pub placed_files : List ℕ → Conversion → List (List ℕ × List ℕ)
 placed_files dst conversion = map (placed dst) (made_by conversion)

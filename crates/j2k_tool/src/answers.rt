@@ -5,12 +5,12 @@ ghost use Rattle.j2k_io.specs.Disks.{listing, with_files, IsCut};
 ghost use Rattle.j2k_sources.specs.Causes.{HasCauses};
 ghost use Rattle.j2k_sources.specs.Sources.{AreSmall, IsSmall};
 ghost use Rattle.j2k_tool.specs.Asks.{Asks, AsksOf, ConvertsLoaded, ConvertsSources, Answered, Stopped, IsAnswer, KotlinDiffer, PathsDiffer, conversion_text as text_by, too_large_text as too_large_text_by};
-ghost use Rattle.j2k_tool.specs.Faults.{fault_line};
+ghost use Rattle.j2k_faults.specs.Faults.{fault_line};
+ghost use Rattle.j2k_tool.specs.Texts.{not_empty_text as not_empty_by};
 ghost use Rattle.j2k_tool.specs.Messages.{message_text};
 ghost use Rattle.j2k_tool.specs.Words.{words_mean};
 ghost use Rattle.j2k_tool.specs.Written.{placed_files as placed_by, AreFree};
 
-use crate::faults::{BLANK, line_of, push_number};
 use crate::project::{Project, judge};
 use crate::status::Status;
 use crate::texts::{
@@ -19,6 +19,7 @@ use crate::texts::{
 use crate::words::folders;
 use crate::writing::{Conversion, write_files};
 use j2k_base::{Fault, NoMemory, Text, Words};
+use j2k_faults::{line_of, push_number};
 use j2k_io::Disk;
 use j2k_sources::{Excess, Halt, Loaded, Sources, list, load};
 use std::alloc::Global;
@@ -90,7 +91,7 @@ fn convert<D: Disk>(alloc: Global, src: &Text, dst: &Text, disk: &mut D) -> Resu
 }
 
 fn not_empty_text(alloc: Global, dst: &Text) -> Result<Text, NoMemory>
-    ensures { IfOk result (λ text. text ≡ NOT_EMPTY.now ++ dst.now ++ LINE_END.now) }
+    ensures { IfOk result (λ text. text ≡ not_empty_by dst.now) }
 {
     let mut text = Text::from_str(alloc, NOT_EMPTY)?;
     text.push_str(dst.as_str())?;
@@ -129,7 +130,7 @@ fn too_large_text(alloc: Global, excess: &Excess) -> Result<Text, NoMemory>
 {
     let mut text = Text::from_str(alloc, TOO_LARGE)?;
     text.push_str(excess.what.as_str())?;
-    text.push_str(BLANK)?;
+    text.push_str(" ")?;
     push_number(alloc, &mut text, excess.limit)?;
     text.push_str(LINE_END)?;
     Ok(text)

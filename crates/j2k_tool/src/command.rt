@@ -9,6 +9,7 @@ ghost use Rattle.j2k_tool.specs.declared.files.TakenFile.{TakenFile};
 ghost use Rattle.j2k_tool.specs.Asks.{Answer as Asked, Asks, Told, Untold, Stopped, IsAnswer, IsUnless, IsGiven, MayTell, KeepsFiles};
 ghost use Rattle.j2k_tool.specs.Headline.{Headline};
 ghost use Rattle.j2k_tool.specs.Projects.{IsProject};
+ghost use Rattle.j2k_tool.specs.Texts.{read_fault_text, write_fault_text};
 ghost use Rattle.j2k_tool.specs.Words.{words_mean};
 
 use crate::answers::perform;
@@ -54,10 +55,11 @@ pub fn run<D: Disk, S: Sink>(alloc: Global, words: &Words, disk: &mut D, out: &m
         Untold (Asks words.now files) (Some files) (D.held disk.new) (S.given out.old) (S.given out.new)) }
 
     // What it gives to the sink after a fault.
-    ensures read_text { result ≡ Status.ReadFault → IsGiven (S.given out.old) READ_FAULT.now (S.given out.new) (Rose (S.faults out.old) (S.faults out.new)) }
-    ensures write_text { result ≡ Status.WriteFault → IsGiven (S.given out.old) WRITE_FAULT.now (S.given out.new) (Rose (S.faults out.old) (S.faults out.new)) }
+    ensures read_text { result ≡ Status.ReadFault → IsGiven (S.given out.old) read_fault_text (S.given out.new) (Rose (S.faults out.old) (S.faults out.new)) }
+    ensures write_text { result ≡ Status.WriteFault → IsGiven (S.given out.old) write_fault_text (S.given out.new) (Rose (S.faults out.old) (S.faults out.new)) }
     ensures memory_text { result ≡ Status.NoMemory → IfSome (D.held disk.old) (λ files.
-        (text : List ℕ) × MayTell (Asks words.now files) text × IsPartOf (S.given out.old) text (S.given out.new)) }
+        (text : List ℕ) × MayTell (Asks words.now files) (Some files) (D.held disk.new) (Rose (D.reads disk.old) (D.reads disk.new)) (Rose (D.writes disk.old) (D.writes disk.new)) text
+        × IsPartOf (S.given out.old) text (S.given out.new)) }
 
     // No count falls.
     ensures later { (D.reads disk.old ≤ D.reads disk.new) × (D.writes disk.old ≤ D.writes disk.new) × (S.faults out.old ≤ S.faults out.new) }

@@ -1,10 +1,10 @@
 // What one file of a project is.
 ghost use Rattle.std.specs.Prelude.{◌≡◌, ◌≤◌, ◌<◌, ◌^◌, length, IfOk};
-ghost use Rattle.j2k_sources.specs.declared.limits.TheConstants.{MAX_TOTAL_BYTES};
+ghost use Rattle.j2k_sources.specs.Sources.{most_bytes};
 ghost use Rattle.j2k_tool.specs.Sources.{HasTokens, HasUnit, IsFound};
 
-use crate::faults::not_built;
 use j2k_base::{Fault, NoMemory, SourceFile, Stop, Text};
+use j2k_faults::not_built;
 use java_lexer::lex;
 use java_parser::parse;
 use java_taken::{Judged, Names, TypedFile, judge};
@@ -35,7 +35,7 @@ pub fn look(
     earlier: &Names,
     file: &SourceFile,
 ) -> Result<Found, NoMemory>
-    requires { length file.now.bytes ≤ MAX_TOTAL_BYTES }
+    requires { length file.now.bytes ≤ most_bytes }
     ensures { IfOk result (IsFound classes.now earlier.now file.now) }
 {
     match lex(alloc, &file.path, file.bytes.as_slice()) {

@@ -4,8 +4,8 @@
 mod answers;
 mod command;
 mod conversion;
-mod faults;
 mod files;
+mod laws;
 mod paths;
 mod printing;
 mod project;
@@ -16,4 +16,5 @@ mod words;
 mod writing;
 
 pub use command::run;
+pub use laws::{one_answer, one_fault};
 pub use status::Status;

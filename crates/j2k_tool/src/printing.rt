@@ -3,8 +3,8 @@ ghost use Rattle.std.specs.Prelude.{◌≡◌, ◌++◌, Some, OnOk, IfOk};
 ghost use Rattle.std.specs.List.{flat_map};
 ghost use Rattle.meanings.specs.KText.{operator_text, expression_text, statement_text, main_text, class_text, part_text, package_text, KText};
 
-use crate::faults::push_number;
 use j2k_base::{Name, NoMemory, Text};
+use j2k_faults::push_number;
 use meanings::kotlin::{
     KClass, KExpr, KFile, KMain, KOTLIN_CLASS, KOTLIN_CLASS_END, KOTLIN_CLASS_OPEN, KOTLIN_DOT,
     KOTLIN_EMPTY_LINE, KOTLIN_IS, KOTLIN_MAIN, KOTLIN_MAIN_END, KOTLIN_MAIN_OPEN, KOTLIN_PACKAGE,

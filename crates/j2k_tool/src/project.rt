@@ -5,11 +5,11 @@ ghost use Rattle.j2k_tool.specs.Projects.{precedes as precedes_by, least as leas
 ghost use Rattle.j2k_tool.specs.Paths.{class_name as class_name_by, with_name, names_of as names_by};
 ghost use Rattle.j2k_tool.specs.Sources.{HasOpenForm};
 
-use crate::faults::not_built;
 use crate::files::{Found, look};
 use crate::paths::class_name;
 use crate::writing::Conversion;
 use j2k_base::{Fault, NoMemory, SourceFile, Text};
+use j2k_faults::not_built;
 use j2k_settings::SETTINGS_FILE;
 use j2k_sources::Sources;
 use java_taken::Names;

@@ -1,64 +1,31 @@
 // The choices of a conversion, and the report on them.
 ghost use Rattle.std.specs.Prelude.{◌≡◌, ◌++◌, IfOk, OnOk};
 ghost use Rattle.std.specs.List.{flat_map};
-ghost use Rattle.j2k_tool.specs.Report.{kind_text as kind_text_by, choice_line, companion, has_class as has_class_by, ReportText, Choices as choices_by};
+ghost use Rattle.j2k_tool.specs.Report.{kind_text as kind_text_by, choice_text, choice_line, companion, has_class as has_class_by, ReportText, Choices as choices_by};
 
-use crate::faults::{BLANK, push_number, push_place};
 use crate::files::TakenFile;
-use crate::texts::LINE_END;
 use j2k_base::{Choice, ChoiceKind, Choices, Name, NoMemory, Place, Text};
+use j2k_faults::{push_number, push_place};
 use java_tree::Position;
 use std::alloc::Global;
-
-// The fixed parts of the report.
-
-pub const REPORT_FILES: &str = "j2k-report 1\nfiles ";
-
-pub const REPORT_CHOICES: &str = "\nchoices ";
-
-pub const KIND_COMPANION: &str = "companion";
-
-pub const KIND_PROPERTY: &str = "property";
-
-pub const KIND_RENAME: &str = "rename";
-
-pub const KIND_WIDEN: &str = "widen";
-
-pub const KIND_NULLABLE: &str = "nullable";
-
-pub const KIND_WHEN: &str = "when";
-
-pub const KIND_CHAIN: &str = "chain";
-
-pub const KIND_RANGE: &str = "range";
-
-pub const KIND_WHILE: &str = "while";
-
-pub const KIND_BIND: &str = "bind";
-
-pub const KIND_COPY: &str = "copy";
-
-pub const KIND_FOLD: &str = "fold";
-
-pub const KIND_DROP: &str = "drop";
 
 fn kind_text(kind: ChoiceKind) -> &'static str
     ensures { result.now ≡ kind_text_by kind }
 {
     match kind {
-        ChoiceKind::Companion => KIND_COMPANION,
-        ChoiceKind::Property => KIND_PROPERTY,
-        ChoiceKind::Rename => KIND_RENAME,
-        ChoiceKind::Widen => KIND_WIDEN,
-        ChoiceKind::Nullable => KIND_NULLABLE,
-        ChoiceKind::When => KIND_WHEN,
-        ChoiceKind::Chain => KIND_CHAIN,
-        ChoiceKind::Range => KIND_RANGE,
-        ChoiceKind::While => KIND_WHILE,
-        ChoiceKind::Bind => KIND_BIND,
-        ChoiceKind::Copy => KIND_COPY,
-        ChoiceKind::Fold => KIND_FOLD,
-        ChoiceKind::Drop => KIND_DROP,
+        ChoiceKind::Companion => "companion",
+        ChoiceKind::Property => "property",
+        ChoiceKind::Rename => "rename",
+        ChoiceKind::Widen => "widen",
+        ChoiceKind::Nullable => "nullable",
+        ChoiceKind::When => "when",
+        ChoiceKind::Chain => "chain",
+        ChoiceKind::Range => "range",
+        ChoiceKind::While => "while",
+        ChoiceKind::Bind => "bind",
+        ChoiceKind::Copy => "copy",
+        ChoiceKind::Fold => "fold",
+        ChoiceKind::Drop => "drop",
     }
 }
 
@@ -112,11 +79,11 @@ pub fn has_class(file: &TakenFile) -> bool
 pub fn report_of(alloc: Global, files: usize, choices: &[Choice]) -> Result<Text, NoMemory>
     ensures { IfOk result (λ text. text ≡ ReportText files choices.now) }
 {
-    let mut out = Text::from_str(alloc, REPORT_FILES)?;
+    let mut out = Text::from_str(alloc, "j2k-report 1\nfiles ")?;
     push_number(alloc, &mut out, files as u64)?;
-    out.push_str(REPORT_CHOICES)?;
+    out.push_str("\nchoices ")?;
     push_number(alloc, &mut out, choices.len() as u64)?;
-    out.push_str(LINE_END)?;
+    out.push_str("\n")?;
     push_choices(alloc, &mut out, choices)?;
     Ok(out)
 }
@@ -134,9 +101,21 @@ fn push_choice(alloc: Global, out: &mut Text, choice: &Choice) -> Result<(), NoM
     ensures { OnOk result (out.new ≡ out.old ++ choice_line choice.now) }
 {
     push_place(alloc, out, &choice.place)?;
-    out.push_str(BLANK)?;
+    out.push_str(" ")?;
     out.push_str(kind_text(choice.kind))?;
-    out.push_str(BLANK)?;
-    out.push_str(choice.text.as_str())?;
-    out.push_str(LINE_END)
+    push_text(out, choice.kind, choice.text.as_str())?;
+    out.push_str("\n")
+}
+
+/// The text of a choice behind a blank; what is dropped has none.
+fn push_text(out: &mut Text, kind: ChoiceKind, text: &str) -> Result<(), NoMemory>
+    ensures { OnOk result (out.new ≡ out.old ++ choice_text kind text.now) }
+{
+    match kind {
+        ChoiceKind::Drop => Ok(()),
+        _ => {
+            out.push_str(" ")?;
+            out.push_str(text)
+        }
+    }
 }

@@ -1,6 +1,6 @@
 -- A unit that is taken is well typed, and its names are those of both languages.
 use Rattle.std.proofs.Common.{◌≡◌, ℕ, zero, suc, Bool, true, false, cond, ◌&&◌, ◌||◌, not, List, [], ◌∷◌, ◌++◌, map, length, Option, Some, None, refl, sym, ◌∙◌, ap, subst, arith}
-use Rattle.std.specs.Prelude.{◌==◌, is_some, nat_lt, option_map}
+use Rattle.std.specs.Prelude.{◌==◌, is_some, nat_lt, option_map, codes}
 use Rattle.std.specs.List.{list_any, AllByRecursion}
 use Rattle.std.specs.Str.{bytes_eq}
 use Rattle.std.proofs.lemmas.List.Folds.{list_any-append}
@@ -42,13 +42,12 @@ use Rattle.meanings.specs.declared.kotlin.KClass.{KClass}
 use Rattle.meanings.specs.Values.{same_name, is_among}
 use Rattle.meanings.specs.Convert as to
 use Rattle.meanings.specs.KSpells.{IsIdentifier, AreIdentifiers, DeclareNoKeyword, MainHasNoKeyword, ClassHasNoKeyword, AreNoKeywords, HasNoKeyword}
-use Rattle.meanings.specs.JTyped.{Knows, AreTyped, MainIsTyped, ClassIsTyped, JTyped}
+use Rattle.meanings.specs.JTyped.{Knows, AreTyped, MainIsTyped, ClassIsTyped, IsTypedFile}
 use Rattle.meanings.specs.JNamed.{IsNamed, AreNamed, MainIsNamed, ClassIsNamed, JNamed}
 use Rattle.java_keywords.specs.Words.{word_kind}
 use Rattle.kotlin_words.specs.Words.{hard_keywords, reserved_names, contains_word}
 use Rattle.java_lib.specs.Library.{classes as library_classes}
 use Rattle.java_lib.specs.Classes.{class_simple}
-use Rattle.java_taken.specs.declared.words.TheConstants.{JAVA, PRINTLN}
 use Rattle.java_taken.specs.declared.judged.TypedFile.{TypedFile}
 use Rattle.java_taken.specs.Judged.{Judged, ◌>>=◌}
 use Rattle.java_taken.specs.Names.{is_plain, is_reserved, is_free, contains_name}
@@ -86,7 +85,7 @@ third_false false false false d e h = refl
 not_keyword : (word : List ℕ) → not (is_reserved word) ≡ true → is_among hard_keywords word ≡ false
 unfolding is_reserved
 not_keyword word not_reserved =
-    among_any hard_keywords word ∙ third_false (is_some (word_kind word)) (bytes_eq word JAVA.now) (contains_word hard_keywords word) (contains_word reserved_names word) (is_some (class_simple word library_classes)) not_reserved
+    among_any hard_keywords word ∙ third_false (is_some (word_kind word)) (bytes_eq word (codes "java")) (contains_word hard_keywords word) (contains_word reserved_names word) (is_some (class_simple word library_classes)) not_reserved
 
 record Free (name : List ℕ) : Type 0 where
   plain : is_plain name ≡ true
@@ -186,7 +185,7 @@ module _ (classes : List (List ℕ)) (parameter : List ℕ) where
 
     typed_called : (d : ℕ) (x : JExpr-F JExpr) → stands_by d (TypeStands d) (TypedStands d) (Stands d) x → (s : JStmt) → called names at x ≡ Judged.Typed s → Owes parameter locals s
     typed_called d (JExpr-F.Method left dot n call_at lp args commas rp) h s is =
-        let parts = if_typed (is_out left && bytes_eq n PRINTLN.now) (printed names at args) at s is in typed_printed d args h.2 s parts.1
+        let parts = if_typed (is_out left && bytes_eq n (codes "println")) (printed names at args) at s is in typed_printed d args h.2 s parts.1
     typed_called d (JExpr-F.Name n name_at) h s is = absurd (cc is)
     typed_called d (JExpr-F.Literal x literal_at) h s is = absurd (cc is)
     typed_called d (JExpr-F.Paren lp x rp) h s is = absurd (cc is)
@@ -411,7 +410,7 @@ typed_package (Some x) names is =
 -- ---- units
 
 pub record FileGood (file : JFile) : Type 0 where
-  pub typed : JTyped file
+  pub typed : IsTypedFile file
   pub named : JNamed file
   pub keywords : HasNoKeyword (to.file_of file)
 

@@ -22,11 +22,10 @@ use Rattle.meanings.specs.Values.{is_among}
 use Rattle.meanings.specs.KSpells.{IsWord, IsIdentifier}
 use Rattle.meanings.specs.JTyped.{known_by, Knows}
 use Rattle.meanings.specs.JNamed.{named_by, level_by, level_of, IsNamed}
-use Rattle.java_taken.specs.declared.expressions.TheConstants.{MAX_NUMBER}
 use Rattle.java_taken.specs.Judged.{Judged, ◌>>=◌}
 use Rattle.java_taken.specs.Names.{is_plain, contains_name}
 use Rattle.java_taken.specs.Places.{first_at}
-use Rattle.java_taken.specs.Expressions.{operator_of, is_number, local_of, number_of, paren_of, binary_of, operands, form_of, expression}
+use Rattle.java_taken.specs.Expressions.{max_int, operator_of, is_number, local_of, number_of, paren_of, binary_of, operands, form_of, expression}
 use Rattle.java_taken.proofs.Forms.{Part, beside, expression_out}
 
 -- ---- what is typed
@@ -66,7 +65,7 @@ identifier (byte ∷ name) is =
       words name (both (is_ascii_alphanumeric byte) (list_all is_ascii_alphanumeric name) two.1).1,
     )
 
-small : (n : ℕ) → nat_le n MAX_NUMBER ≡ true → n < 2 ^ 31
+small : (n : ℕ) → nat_le n max_int ≡ true → n < 2 ^ 31
 small n e = grind (arith, nat_tests)
 
 -- the same locals, newest first and oldest first
@@ -125,7 +124,7 @@ module _ (locals names : List (List ℕ)) (same : SameLocals locals names) (plai
     level = inl (low, level_is (TExpr-F.Local name) (t.Local name) (t.rolls-Local name));
   }
 
-  good_number : (place : ℕ) → place ≤ 16 → (n : ℕ) → nat_le n MAX_NUMBER ≡ true → Good locals place (t.Number n)
+  good_number : (place : ℕ) → place ≤ 16 → (n : ℕ) → nat_le n max_int ≡ true → Good locals place (t.Number n)
   unfolding Knows IsNamed
   good_number place low n is = record {
     known = every_number (known_by locals) n tt;
@@ -154,7 +153,7 @@ module _ (locals names : List (List ℕ)) (same : SameLocals locals names) (plai
 
   typed_literal : (place : ℕ) (x : JLiteral) (at : Position) (e : TExpr) → place ≤ 16 → number_of x at ≡ Judged.Typed e → Good locals place e
   typed_literal place (literal.Integer n) at e low is =
-      let parts = if_typed (nat_le n MAX_NUMBER) (Judged.Typed (t.Number n)) at e is in
+      let parts = if_typed (nat_le n max_int) (Judged.Typed (t.Number n)) at e is in
       subst (Good locals place) (typed_is _ _ parts.1) (good_number place low n parts.0)
   typed_literal place literal.LeastInteger at e low is = absurd (cc is)
   typed_literal place (literal.Long n) at e low is = absurd (cc is)

@@ -14,7 +14,6 @@ use Rattle.meanings.specs.declared.operators.Operator.TheVariants.{Plus, Minus, 
 use Rattle.meanings.specs.declared.java.JExpr.{JExpr as TExpr, out-JExpr as out-TExpr}
 use Rattle.meanings.specs.declared.java.JExpr.TheOpen.{JExpr-F as TExpr-F}
 use Rattle.meanings.specs.declared.java.JExpr.TheVariants as t
-use Rattle.java_taken.specs.declared.expressions.TheConstants.{MAX_NUMBER}
 use Rattle.java_taken.specs.Judged.{Judged, ◌>>=◌}
 use Rattle.java_taken.specs.Names.{contains_name}
 use Rattle.java_taken.specs.Places.{first_of}
@@ -40,9 +39,13 @@ is_number x = is_number_by (out-TExpr x)
 abbrev pub local_of : List (List ℕ) → List ℕ → Position → Judged TExpr
 local_of names name at = if contains_name names name then Judged.Typed (t.Local name) else Judged.Open at
 
+-- the largest int (JLS 4.2.1)
+abbrev pub max_int : ℕ
+max_int = 2147483647
+
 -- an int literal of at most the largest int (JLS 3.10.1)
 abbrev pub number_of : JLiteral → Position → Judged TExpr
-number_of (literal.Integer n) at = if nat_le n MAX_NUMBER then Judged.Typed (t.Number n) else Judged.Open at
+number_of (literal.Integer n) at = if nat_le n max_int then Judged.Typed (t.Number n) else Judged.Open at
 number_of _ at = Judged.Open at
 
 -- parentheses around a name at least (JLS 15.8.5, 15.28)

@@ -1,5 +1,5 @@
 -- Which names are taken.
-use Rattle.std.specs.Prelude.{ℕ, Bool, ◌&&◌, ◌||◌, not, List, length, slice_index, is_some, ◌==◌}
+use Rattle.std.specs.Prelude.{ℕ, Bool, ◌&&◌, ◌||◌, not, List, length, slice_index, is_some, ◌==◌, codes}
 use Rattle.std.specs.List.{list_all, list_any}
 use Rattle.std.specs.Char.{is_ascii_alphabetic, is_ascii_alphanumeric}
 use Rattle.std.specs.Str.{bytes_eq}
@@ -7,7 +7,6 @@ use Rattle.java_keywords.specs.Words.{word_kind}
 use Rattle.kotlin_words.specs.Words.{hard_keywords, reserved_names, contains_word}
 use Rattle.java_lib.specs.Library.{classes}
 use Rattle.java_lib.specs.Classes.{class_simple}
-use Rattle.java_taken.specs.declared.words.TheConstants.{JAVA}
 
 -- ASCII letters and digits that begin with a letter
 abbrev pub is_plain : List ℕ → Bool
@@ -18,7 +17,7 @@ is_plain bytes = not (length bytes == 0) && is_ascii_alphabetic (slice_index byt
 unfoldable pub is_reserved : List ℕ → Bool
 is_reserved word =
     is_some (word_kind word)
-    || bytes_eq word JAVA.now
+    || bytes_eq word (codes "java")
     || contains_word hard_keywords word
     || contains_word reserved_names word
     || is_some (class_simple word classes)

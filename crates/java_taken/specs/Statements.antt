@@ -1,5 +1,5 @@
 -- What a statement of `main` is judged to be after the declarations of locals.
-use Rattle.std.specs.Prelude.{ℕ, Bool, true, false, ◌&&◌, not, if◌then◌else◌, List, [], ◌∷◌, ◌++◌, Option, Some, None}
+use Rattle.std.specs.Prelude.{ℕ, Bool, true, false, ◌&&◌, not, if◌then◌else◌, List, [], ◌∷◌, ◌++◌, Option, Some, None, codes}
 use Rattle.std.specs.Str.{bytes_eq}
 use Rattle.java_tree.specs.declared.tokens.Position.{Position}
 use Rattle.java_tree.specs.declared.types.Primitive.TheVariants as primitive
@@ -24,7 +24,6 @@ use Rattle.java_taken.specs.Judged.{Judged, ◌>>=◌}
 use Rattle.java_taken.specs.Names.{is_free, contains_name}
 use Rattle.java_taken.specs.Places.{statement_at}
 use Rattle.java_taken.specs.Expressions.{expression}
-use Rattle.java_taken.specs.declared.words.TheConstants.{SYSTEM, OUT, PRINTLN}
 
 -- the name of a local: none of a class of the project, of the parameter, or of a local that is declared before (JLS 6.4)
 abbrev pub may_declare : List (List ℕ) → List ℕ → List (List ℕ) → List ℕ → Bool
@@ -33,14 +32,14 @@ may_declare classes parameter names name =
 
 -- `System.out` (JLS 6.5.6.2)
 abbrev pub is_system_by : JExpr-F JExpr → Bool
-is_system_by (JExpr-F.Name name at) = bytes_eq name SYSTEM.now
+is_system_by (JExpr-F.Name name at) = bytes_eq name (codes "System")
 is_system_by _ = false
 
 unfoldable pub is_system : JExpr → Bool
 is_system x = is_system_by (out-JExpr x)
 
 abbrev pub is_out_by : JExpr-F JExpr → Bool
-is_out_by (JExpr-F.Field left dot name at) = is_system left && bytes_eq name OUT.now
+is_out_by (JExpr-F.Field left dot name at) = is_system left && bytes_eq name (codes "out")
 is_out_by _ = false
 
 unfoldable pub is_out : JExpr → Bool
@@ -62,7 +61,7 @@ module _ (names : List (List ℕ)) (at : Position) where
   printed _ = Judged.Open at
 
   abbrev pub called : JExpr-F JExpr → Judged JStmt
-  called (JExpr-F.Method left dot name name_at lp args commas rp) = if is_out left && bytes_eq name PRINTLN.now then printed args else Judged.Open at
+  called (JExpr-F.Method left dot name name_at lp args commas rp) = if is_out left && bytes_eq name (codes "println") then printed args else Judged.Open at
   called _ = Judged.Open at
 
 -- The first two are the names of the project's classes and that of the parameter.

@@ -1,5 +1,5 @@
 -- What a unit is judged to be.
-use Rattle.std.specs.Prelude.{ℕ, Bool, true, false, ◌&&◌, ◌||◌, not, if◌then◌else◌, nat_lt, nat_eq, List, [], ◌∷◌, ◌++◌, map, Option, Some, None}
+use Rattle.std.specs.Prelude.{ℕ, Bool, true, false, ◌&&◌, ◌||◌, not, if◌then◌else◌, nat_lt, nat_eq, List, [], ◌∷◌, ◌++◌, map, Option, Some, None, codes}
 use Rattle.std.specs.Str.{bytes_eq}
 use Rattle.std.specs.List.{ends_with}
 use Rattle.java_tree.specs.declared.tokens.Comment.{Comment}
@@ -33,7 +33,6 @@ use Rattle.meanings.specs.declared.java.JClass.{JClass}
 use Rattle.java_taken.specs.declared.judged.Judged.{Judged as Answer}
 use Rattle.java_taken.specs.declared.judged.Judged.TheVariants as answer
 use Rattle.java_taken.specs.declared.judged.TypedFile.{TypedFile}
-use Rattle.java_taken.specs.declared.words.TheConstants.{MAIN, STRING, JAVA_END, SLASH}
 use Rattle.java_taken.specs.Judged.{Judged, ◌>>=◌}
 use Rattle.java_taken.specs.Names.{is_free, contains_name}
 use Rattle.java_taken.specs.Places.{member_at}
@@ -54,7 +53,7 @@ is_simple [] = true
 is_simple (x ∷ xs) = false
 
 abbrev pub is_string_by : JType-F JType → Bool
-is_string_by (JType-F.Class name) = bytes_eq name.name STRING.now && is_simple name.rest
+is_string_by (JType-F.Class name) = bytes_eq name.name (codes "String") && is_simple name.rest
 is_string_by _ = false
 
 unfoldable pub is_string : JType → Bool
@@ -82,7 +81,7 @@ only (x ∷ []) = if is_parameter x.is_final x.kind then Some x else None
 only _ = None
 
 abbrev pub main_parameter : JMemberHead → Option JTypedParam
-main_parameter (head.Method mods None (result.Void void_at) name at formals None) = if are_main (kinds mods) && bytes_eq name MAIN.now then only formals.items else None
+main_parameter (head.Method mods None (result.Void void_at) name at formals None) = if are_main (kinds mods) && bytes_eq name (codes "main") then only formals.items else None
 main_parameter _ = None
 
 module _ (classes : List (List ℕ)) where
@@ -130,7 +129,7 @@ Placed = JClass × Position
 
 -- The file is named as the class, which has no `/` (own rule where JLS 7.6 leaves it open).
 abbrev pub is_file_of : List ℕ → List ℕ → Bool
-is_file_of path name = bytes_eq path (name ++ JAVA_END.now) || ends_with nat_eq path (SLASH.now ++ (name ++ JAVA_END.now))
+is_file_of path name = bytes_eq path (name ++ codes ".java") || ends_with nat_eq path (codes "/" ++ (name ++ codes ".java"))
 
 -- the name of the class in the file of the path: that of no class of an earlier file
 abbrev pub may_name : List (List ℕ) → List ℕ → List ℕ → Bool

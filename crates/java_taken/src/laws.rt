@@ -6,7 +6,7 @@ ghost use Rattle.java_unit_grammar.specs.Standing.{UnitSpells};
 ghost use Rattle.java_unit_grammar.specs.declared.units.JUnit.{JUnit};
 ghost use Rattle.meanings.specs.Convert.{file_of};
 ghost use Rattle.meanings.specs.JNamed.{JNamed};
-ghost use Rattle.meanings.specs.JTyped.{JTyped};
+ghost use Rattle.meanings.specs.JTyped.{IsTypedFile};
 ghost use Rattle.meanings.specs.KSpells.{HasNoKeyword};
 ghost use Rattle.java_taken.specs.declared.judged.TypedFile.{TypedFile};
 ghost use Rattle.java_taken.specs.Judged as j;
@@ -14,7 +14,7 @@ ghost use Rattle.java_taken.specs.Units.{unit};
 
 /// It is well typed (JLS 6.3, 6.4, 16).
 pub fn is_typed()
-    ensures { (classes earlier : List (List ℕ)) (x : JUnit) (f : TypedFile) (text : Tokens) → unit classes earlier x ≡ j.Judged.Typed f → UnitSpells x text → JTyped f.file }
+    ensures { (classes earlier : List (List ℕ)) (x : JUnit) (f : TypedFile) (text : Tokens) → unit classes earlier x ≡ j.Judged.Typed f → UnitSpells x text → IsTypedFile f.file }
 {}
 
 /// Its names, numbers and operands are spelled alike in both languages (JLS 3.8, 3.10.1, 15.17, 15.18).

@@ -1,10 +1,10 @@
 -- An answer changes nothing but what it says.
 use Rattle.std.proofs.Common.{◌≡◌, ◌≢◌, ℕ, zero, suc, ◌+◌, Bool, true, false, ◌==◌, List, [], ◌∷◌, ◌++◌, Option, Some, None, slice_get, if◌then◌else◌, refl, sym, ap, ◌∙◌, subst, arith, append-nil}
-use Rattle.meanings.specs.Values.{Name, same_name, Value, same_value, Step, Touch, InitEnd, Alloc, Built, Get, Put, GetStatic, PutStatic, GetElem, PutElem, Enter, Exit, Print, ReadByte, Lib, Raise, Start, Join, End, Torn, Answer}
+use Rattle.meanings.specs.Values.{ClassName, same_class, Value, same_value, Step, Touch, InitEnd, Alloc, Built, Get, Put, GetStatic, PutStatic, GetElem, PutElem, Enter, Exit, Print, ReadByte, Lib, Raise, Start, Join, End, Torn, Answer}
 use Rattle.meanings.specs.Library.{Row, library}
 use Rattle.meanings.specs.World.{World, Hold, Reply, ClassState, Untouched, Running, IsReady, IsFailed, state_of, touch_answer, ended_class, hold_of, with_hold, enter_answer, exited, was_started, is_running, start_answer, read_answer, library_answer, answer}
 use Rattle.meanings.specs.Laws.{printed, left, statics_after, changes_heap, changes_threads, names_class, count_of, entries, owned, exits, Answered}
-use Rattle.meanings.proofs.SameValues.{same_name_true, same_value_true}
+use Rattle.meanings.proofs.SameValues.{same_class_true, same_value_true}
 
 -- of the world after, where the step isn't blocked
 abbrev pub OnReply : Reply → (World → Type 0) → Type 0
@@ -29,9 +29,9 @@ module _ (w : World) (thread : ℕ) where
     defaults = ed;
     heap = heap;
     threads = threads;
-    classes = λ class other. ap (λ (classes : List (Name × ClassState)). state_of classes class) ec;
-    ready = λ class h. ap (λ (classes : List (Name × ClassState)). state_of classes class) ec ∙ h;
-    failed = λ class h. ap (λ (classes : List (Name × ClassState)). state_of classes class) ec ∙ h;
+    classes = λ class other. ap (λ (classes : List (ClassName × ClassState)). state_of classes class) ec;
+    ready = λ class h. ap (λ (classes : List (ClassName × ClassState)). state_of classes class) ec ∙ h;
+    failed = λ class h. ap (λ (classes : List (ClassName × ClassState)). state_of classes class) ec ∙ h;
     monitors = λ v. ap (λ (monitors : List (Value × Hold)). (hold_of monitors v).count + exits w thread p v) em ∙ ap (λ (k : ℕ). count_of w v + k) (counts v);
   }
 
@@ -49,19 +49,19 @@ module _ (w : World) (thread : ℕ) where
 
   -- ---- classes
 
-  kept_state : (classes : List (Name × ClassState)) (class other : Name) (new old st : ClassState) → state_of classes class ≡ old → old ≢ st → state_of classes other ≡ st → state_of ((class, new) ∷ classes) other ≡ st
-  kept_state classes class other new old st is ne h = go (same_name class other) refl
+  kept_state : (classes : List (ClassName × ClassState)) (class other : ClassName) (new old st : ClassState) → state_of classes class ≡ old → old ≢ st → state_of classes other ≡ st → state_of ((class, new) ∷ classes) other ≡ st
+  kept_state classes class other new old st is ne h = go (same_class class other) refl
     where
-      go : (b : Bool) → same_name class other ≡ b → (if b then new else state_of classes other) ≡ st
-      go true e = absurd (ne (sym is ∙ ap (state_of classes) (same_name_true class other e) ∙ h))
+      go : (b : Bool) → same_class class other ≡ b → (if b then new else state_of classes other) ≡ st
+      go true e = absurd (ne (sym is ∙ ap (state_of classes) (same_class_true class other e) ∙ h))
       go false e = h
 
-  other_state : (classes : List (Name × ClassState)) (class other : Name) (new : ClassState) → same_name class other ≡ false → state_of ((class, new) ∷ classes) other ≡ state_of classes other
+  other_state : (classes : List (ClassName × ClassState)) (class other : ClassName) (new : ClassState) → same_class class other ≡ false → state_of ((class, new) ∷ classes) other ≡ state_of classes other
   other_state classes class other new e = rw e refl
 
   -- a class that is neither ready nor failed gets another state
-  class_changed : (p : Step) (class : Name) (old new : ClassState) → printed p ≡ [] → left p w.input ≡ w.input → statics_after p w.statics ≡ w.statics → ((v : Value) → exits w thread p v ≡ entries p v) →
-      ((other : Name) → names_class p other ≡ same_name class other) → state_of w.classes class ≡ old → old ≢ IsReady → old ≢ IsFailed → Answered w thread p (record w { classes = (class, new) ∷ w.classes })
+  class_changed : (p : Step) (class : ClassName) (old new : ClassState) → printed p ≡ [] → left p w.input ≡ w.input → statics_after p w.statics ≡ w.statics → ((v : Value) → exits w thread p v ≡ entries p v) →
+      ((other : ClassName) → names_class p other ≡ same_class class other) → state_of w.classes class ≡ old → old ≢ IsReady → old ≢ IsFailed → Answered w thread p (record w { classes = (class, new) ∷ w.classes })
   class_changed p class old new none keeps keeps' counts names is not_ready not_failed = record {
     output = sym (append-nil w.output) ∙ ap (λ (units : List ℕ). w.output ++ units) (sym none);
     input = sym keeps;
@@ -75,13 +75,13 @@ module _ (w : World) (thread : ℕ) where
     monitors = λ v. ap (λ (k : ℕ). count_of w v + k) (counts v);
   }
 
-  touch_answered : (class : Name) (st : ClassState) → state_of w.classes class ≡ st → OnReply (touch_answer w thread class st) (Answered w thread (Touch class))
+  touch_answered : (class : ClassName) (st : ClassState) → state_of w.classes class ≡ st → OnReply (touch_answer w thread class st) (Answered w thread (Touch class))
   touch_answered class Untouched is = class_changed (Touch class) class Untouched (Running thread) refl refl refl (λ v. refl) (λ other. refl) is (λ e. cc) (λ e. cc)
   touch_answered class (Running owner) is = if_reply (owner == thread) _ (Answered w thread (Touch class)) (same (Touch class) refl refl refl (λ v. refl))
   touch_answered class IsReady is = same (Touch class) refl refl refl (λ v. refl)
   touch_answered class IsFailed is = same (Touch class) refl refl refl (λ v. refl)
 
-  init_answered : (class : Name) (well : Bool) (st : ClassState) → state_of w.classes class ≡ st → Answered w thread (InitEnd class well) (record w { classes = ended_class w.classes thread class well st })
+  init_answered : (class : ClassName) (well : Bool) (st : ClassState) → state_of w.classes class ≡ st → Answered w thread (InitEnd class well) (record w { classes = ended_class w.classes thread class well st })
   init_answered class well Untouched is = same (InitEnd class well) refl refl refl (λ v. refl)
   init_answered class well IsReady is = same (InitEnd class well) refl refl refl (λ v. refl)
   init_answered class well IsFailed is = same (InitEnd class well) refl refl refl (λ v. refl)

@@ -1,10 +1,13 @@
 -- The depth n + length answers is never used up: any larger one gives the same thread.
-use Rattle.std.proofs.Common.{◌≡◌, ℕ, zero, suc, ◌+◌, ◌≤◌, ℤ, pos, negsuc, Bool, true, false, List, [], ◌∷◌, ◌++◌, length, refl, ap, arith, if◌then◌else◌}
+use Rattle.std.proofs.Common.{◌≡◌, ℕ, zero, suc, ◌+◌, ◌≤◌, ℤ, pos, negsuc, Bool, true, false, List, [], ◌∷◌, ◌++◌, length, Option, Some, None, refl, ap, arith, if◌then◌else◌}
 use Rattle.std.specs.Prelude.{nat_lt}
-use Rattle.meanings.specs.declared.operators.Operator.{Operator}
-use Rattle.meanings.specs.Values.{Name, same_name, Field, Site, same_site, Kind, Value, Null, Lambda, captured_list, Step, Touch, InitEnd, Get, Put, GetElem, PutElem, Raise, Answer, Ready, Run, Mine, Failed, Done, Given, Raised, integer_in, is_true, is_null, class_in}
-use Rattle.meanings.specs.Outcome.{Locals, State, Exit, Jump, Exits, Returns, Throws, Outcome, Asks, Busy, Gives, Jumps, Meaning, then_do, pure, ◌>>=◌, ◌>>◌, jump, ask, ask_from, busy, pay, pay_from, local, assign, assign_all}
-use Rattle.meanings.specs.Machine.{Bodies, Place, received, ask_value, ask_done, raise, returned, apart, fail, init_end, touched, touch, check_null, get_field, put_field, length_in, index_in, get_element, put_element, print_line, arithmetic, binary, all, sequence, choose, caught_exit, caught, catch, turns, loop, handled, try, is_break, is_continue}
+use Rattle.j2k_base.specs.declared.constants.Op2.{Op2}
+use Rattle.j2k_base.specs.declared.constants.Const.{Const}
+use Rattle.const_fold.specs.Constants.{operated, decided}
+use Rattle.meanings.specs.Values.{Name, ClassName, same_class, Field, Site, same_site, Kind, Value, Null, Integer, Boolean, Units, Class, Companion, Object, Array, Lambda, captured_list, Step, Touch, InitEnd, Get, Put, GetElem, PutElem, Lib, Raise, Torn, Answer, Ready, Run, Mine, Failed, Done, Given, Raised, integer_in, is_true, is_null}
+use Rattle.meanings.specs.Classes.{Classes, is_error}
+use Rattle.meanings.specs.Outcome.{Locals, State, Exit, Jump, Exits, Returns, Throws, Outcome, Asks, Busy, Gives, Jumps, Meaning, then_do, pure, ◌>>=◌, ◌>>◌, jump, ask, ask_from, torn, busy, pay, pay_from, local, assign, assign_all}
+use Rattle.meanings.specs.Machine.{Bodies, Callee, InBody, InText, InRow, Place, received, ask_value, ask_done, raise, returned, apart, call_text, call_in, call_on, text_site, converted, fail, init_end, touched, touch, check_null, get_field, put_field, length_in, index_in, get_element, put_element, print_line, resulted, arithmetic, logic, binary, all, sequence, choose, caught_exit, caught, catch, turns, loop, put_back, scoped, handled, try, is_break, is_continue}
 use Rattle.meanings.specs.Program.{Body, Initializer, Program, Start, Enters, Runs, turn, place, outside, enter, begin, bodies, thread_from, thread_at, thread, run_site}
 
 -- how many bodies may still be entered from here
@@ -105,11 +108,18 @@ module _ {w : ℕ} where
   pub raise_within : {A : Type 0} (class : Name) → Within w (raise {A = A} class) (raise class)
   raise_within class = bind_within (ask_value_within (Raise class)) (λ v. jump_within (Throws v))
 
-  pub print_line_within : (v : Value) → Within w (print_line v) (print_line v)
-  print_line_within v = ask_done_within _
+  torn_within : {A : Type 0} → Within w (torn {A = A}) torn
+  torn_within = record { by = λ s l. asks Torn }
 
-  pub arithmetic_within : (kind : Kind) (operator : Operator) (x y : Value) → Within w (arithmetic kind operator x y) (arithmetic kind operator x y)
-  arithmetic_within kind operator x y = pure_within _
+  resulted_within : (c : Option Const) → Within w (resulted c) (resulted c)
+  resulted_within None = raise_within _
+  resulted_within (Some c) = pure_within _
+
+  pub arithmetic_within : (op : Op2) (left both : Kind) (x y : Value) → Within w (arithmetic op left both x y) (arithmetic op left both x y)
+  arithmetic_within op left both x y = resulted_within (operated op left both (integer_in x) (integer_in y))
+
+  pub logic_within : (op : Op2) (x y : Value) → Within w (logic op x y) (logic op x y)
+  logic_within op x y = resulted_within (decided op (is_true x) (is_true y))
 
   pub binary_within : {A : Type 0} {operation operation' : Value → Value → Meaning A} {a a' b b' : Meaning Value} → ((x y : Value) → Within w (operation x y) (operation' x y)) →
       Within w a a' → Within w b b' → Within w (binary operation a b) (binary operation' a' b')
@@ -141,7 +151,7 @@ pub record WithinBodies (w : ℕ) (b b' : Bodies) : Type 0 where
   pub method : (site : Site) (vs : List Value) → Within w (b.method site vs) (b'.method site vs)
   pub constructor : (site : Site) (vs : List Value) → Within w (b.constructor site vs) (b'.constructor site vs)
   pub lambda : (site : Site) (captured vs : List Value) → Within w (b.lambda site captured vs) (b'.lambda site captured vs)
-  pub initializer : (v : ℕ) (class : Name) → v + 1 ≤ w → Within v (b.initializer class) (b'.initializer class)
+  pub initializer : (v : ℕ) (class : ClassName) → v + 1 ≤ w → Within v (b.initializer class) (b'.initializer class)
 
 returned_within : {u : ℕ} {o o' : Outcome (Unit {0})} (l : Locals) → AtMost u o o' → AtMost u (returned l o) (returned l o')
 returned_within l (asks p) = asks p
@@ -154,23 +164,61 @@ returned_within l (jumps (Throws v) s h) = jumps (Throws v) _ h
 pub apart_within : {w : ℕ} {m m' : Meaning (Unit {0})} → Within w m m' → Within w (apart m) (apart m')
 apart_within h = record { by = λ s l. returned_within s.locals (h.by (record s { locals = [] }) l) }
 
-fail_within : {w : ℕ} (is_error : Name → Bool) (v : Value) → Within w (fail is_error v) (fail is_error v)
-fail_within is_error v = if_within (is_error (class_in v)) (jump_within (Throws v)) (raise_within _)
+fail_within : {w : ℕ} (c : Classes) (v : Value) → Within w (fail c v) (fail c v)
+fail_within c v = if_within (is_error c v) (jump_within (Throws v)) (raise_within _)
 
-init_end_within : {u : ℕ} (is_error : Name → Bool) (class : Name) {o o' : Outcome Value} → AtMost u o o' → AtMost u (init_end is_error class o) (init_end is_error class o')
-init_end_within is_error class (asks p) = asks p
-init_end_within is_error class busy_too = busy_too
-init_end_within {u} is_error class (gives a s h) = more_weight h ((ask_done_within {w = u} (InitEnd class true)).by s h)
-init_end_within {u} is_error class (jumps (Throws v) s h) = more_weight h ((step_within {w = u} (ask_done_within (InitEnd class false)) (fail_within is_error v)).by s h)
-init_end_within {u} is_error class (jumps (Returns v) s h) = more_weight h ((ask_done_within {w = u} (InitEnd class true)).by s h)
-init_end_within {u} is_error class (jumps (Exits e) s h) = more_weight h ((ask_done_within {w = u} (InitEnd class true)).by s h)
+init_end_within : {u : ℕ} (c : Classes) (class : ClassName) {o o' : Outcome Value} → AtMost u o o' → AtMost u (init_end c class o) (init_end c class o')
+init_end_within c class (asks p) = asks p
+init_end_within c class busy_too = busy_too
+init_end_within {u} c class (gives a s h) = more_weight h ((ask_done_within {w = u} (InitEnd class true)).by s h)
+init_end_within {u} c class (jumps (Throws v) s h) = more_weight h ((step_within {w = u} (ask_done_within (InitEnd class false)) (fail_within c v)).by s h)
+init_end_within {u} c class (jumps (Returns v) s h) = more_weight h ((ask_done_within {w = u} (InitEnd class true)).by s h)
+init_end_within {u} c class (jumps (Exits e) s h) = more_weight h ((ask_done_within {w = u} (InitEnd class true)).by s h)
 
 -- a place with other bodies
 abbrev pub with_bodies : Place → Bodies → Place
 with_bodies p b = record p { bodies = b }
 
-touched_within : {w : ℕ} (p : Place) {b b' : Bodies} → WithinBodies w b b' → (class : Name) (v : ℕ) → v + 1 ≤ w → (a : Answer) → Within v (touched (with_bodies p b) class a) (touched (with_bodies p b') class a)
-touched_within p h class v l Run = record { by = λ s l'. init_end_within p.is_error class ((apart_within (h.initializer v class l)).by s l') }
+-- ---- calls on a value
+
+module _ {w : ℕ} (p : Place) {b b' : Bodies} (h : WithinBodies w b b') where
+  text_within : (v : Value) (vs : List Value) → Within w (call_text (with_bodies p b) v vs) (call_text (with_bodies p b') v vs)
+  text_within (Lambda own k captured) vs = apart_within (h.lambda own (captured_list captured) vs)
+  text_within Null vs = torn_within
+  text_within (Integer kind z) vs = torn_within
+  text_within (Boolean c) vs = torn_within
+  text_within (Units units) vs = torn_within
+  text_within (Class name) vs = torn_within
+  text_within (Companion name) vs = torn_within
+  text_within (Object class k captured) vs = torn_within
+  text_within (Array elements length k) vs = torn_within
+
+  callee_within : (v : Value) (vs : List Value) (callee : Callee) → Within w (call_in (with_bodies p b) v vs callee) (call_in (with_bodies p b') v vs callee)
+  callee_within v vs (InBody site) = apart_within (h.method site (v ∷ vs))
+  callee_within v vs InText = text_within v vs
+  callee_within v vs (InRow row) = ask_value_within (Lib row (v ∷ vs))
+
+  pub call_on_within : (site : Site) (v : Value) (vs : List Value) → Within w (call_on (with_bodies p b) site v vs) (call_on (with_bodies p b') site v vs)
+  call_on_within site v vs = callee_within v vs (p.resolves site v)
+
+  pub converted_within : (v : Value) → Within w (converted (with_bodies p b) v) (converted (with_bodies p b') v)
+  converted_within (Object class k captured) = bind_within (call_on_within text_site (Object class k captured) []) (λ u. pure_within _)
+  converted_within Null = pure_within _
+  converted_within (Integer kind z) = pure_within _
+  converted_within (Boolean c) = pure_within _
+  converted_within (Units units) = pure_within _
+  converted_within (Class name) = pure_within _
+  converted_within (Companion name) = pure_within _
+  converted_within (Array elements length k) = pure_within _
+  converted_within (Lambda own k captured) = pure_within _
+
+  pub print_line_within : (v : Value) → Within w (print_line (with_bodies p b) v) (print_line (with_bodies p b') v)
+  print_line_within v = bind_within (converted_within v) (λ units. ask_done_within _)
+
+-- ---- class initialization
+
+touched_within : {w : ℕ} (p : Place) {b b' : Bodies} → WithinBodies w b b' → (class : ClassName) (v : ℕ) → v + 1 ≤ w → (a : Answer) → Within v (touched (with_bodies p b) class a) (touched (with_bodies p b') class a)
+touched_within p h class v l Run = record { by = λ s l'. init_end_within p.classes class ((apart_within (h.initializer v class l)).by s l') }
 touched_within p h class v l Failed = raise_within _
 touched_within p h class v l Ready = pure_within tt
 touched_within p h class v l Mine = pure_within tt
@@ -178,7 +226,7 @@ touched_within p h class v l Done = pure_within tt
 touched_within p h class v l (Given x) = pure_within tt
 touched_within p h class v l (Raised x) = pure_within tt
 
-pub touch_within : {w : ℕ} (p : Place) {b b' : Bodies} → WithinBodies w b b' → (class : Name) → Within w (touch (with_bodies p b) class) (touch (with_bodies p b') class)
+pub touch_within : {w : ℕ} (p : Place) {b b' : Bodies} → WithinBodies w b b' → (class : ClassName) → Within w (touch (with_bodies p b) class) (touch (with_bodies p b') class)
 touch_within {w} p h class =
     if_within (p.touches class)
     (record { by = λ s l. ask_then (Touch class) s s.answers (λ a s' l'. (touched_within p h class (weight s') (omega arith) a).by s' (omega arith)) }) (pure_within tt)
@@ -230,6 +278,15 @@ module _ {w : ℕ} where
   pub loop_within : (labels : List Name) {test test' : Meaning Value} {body body' : Meaning (Unit {0})} → Within w test test' → Within w body body' → Within w (loop labels test body) (loop labels test' body')
   loop_within labels t b = record { by = λ s h. (catch_within (is_break labels) (turns_within s.n t (catch_within (is_continue labels) b))).by s h }
 
+put_back_within : {u : ℕ} {A : Type 0} (name : Name) (v : Value) {o o' : Outcome A} → AtMost u o o' → AtMost u (put_back name v o) (put_back name v o')
+put_back_within name v (asks p) = asks p
+put_back_within name v busy_too = busy_too
+put_back_within name v (gives a s h) = gives a _ h
+put_back_within name v (jumps j s h) = jumps j _ h
+
+pub scoped_within : {w : ℕ} {A : Type 0} (name : Name) {m m' : Meaning A} → Within w m m' → Within w (scoped name m) (scoped name m')
+scoped_within name h = record { by = λ s l. put_back_within name _ (h.by s l) }
+
 pub data AllWithin (w : ℕ) {A : Type 0} : List (Meaning A) → List (Meaning A) → Type 0 where
   none : AllWithin w [] []
   more : {m m' : Meaning A} {ms ms' : List (Meaning A)} → Within w m m' → AllWithin w ms ms' → AllWithin w (m ∷ ms) (m' ∷ ms')
@@ -265,13 +322,13 @@ pub record WithinProgram (program : Program) : Type 0 where
 
 module _ (program : Program) where
   enter_within : (w : ℕ) {b b' : Bodies} → WithinBodies w b b' → (list : List Body) → WithinTexts list → (site : Site) (vs : List Value) → Within (w + 1) (enter program b list site vs) (enter program b' list site vs)
-  enter_within w h [] texts site vs = pay_within (pure_within tt)
+  enter_within w h [] texts site vs = pay_within torn_within
   enter_within w {b} {b'} h (body ∷ list) texts site vs =
       if_within (same_site body.site site) (pay_within (step_within (assign_all_within body.parameters vs) (texts.0.by w (place program b body.site.class) h))) (enter_within w h list texts.1 site vs)
 
-  begin_within : (w : ℕ) {b b' : Bodies} → WithinBodies w b b' → (list : List Initializer) → WithinInitializers list → (class : Name) → Within w (begin program b list class) (begin program b' list class)
+  begin_within : (w : ℕ) {b b' : Bodies} → WithinBodies w b b' → (list : List Initializer) → WithinInitializers list → (class : ClassName) → Within w (begin program b list class) (begin program b' list class)
   begin_within w h [] texts class = pure_within tt
-  begin_within w {b} {b'} h (first ∷ list) texts class = if_within (same_name first.class class) (texts.0.by w (place program b class) h) (begin_within w h list texts.1 class)
+  begin_within w {b} {b'} h (first ∷ list) texts class = if_within (same_class first.class class) (texts.0.by w (place program b class) h) (begin_within w h list texts.1 class)
 
   -- where no body may be entered, each is Busy
   if_busy : (c : Bool) (m m' : Meaning (Unit {0})) (s : State) → m s ≡ Busy → m' s ≡ Busy → (if c then m else m') s ≡ Busy
@@ -282,7 +339,7 @@ module _ (program : Program) where
   pay_busy m s e = rw e refl
 
   enter_busy : (b : Bodies) (list : List Body) (site : Site) (vs : List Value) (s : State) → s.n ≡ 0 → enter program b list site vs s ≡ Busy
-  enter_busy b [] site vs s e = pay_busy (pure tt) s e
+  enter_busy b [] site vs s e = pay_busy torn s e
   enter_busy b (body ∷ list) site vs s e = if_busy (same_site body.site site) _ _ s (pay_busy _ s e) (enter_busy b list site vs s e)
 
   no_method : (d : ℕ) (site : Site) (vs : List Value) (s : State) → s.n ≡ 0 → (bodies program d).method site vs s ≡ Busy
@@ -318,9 +375,8 @@ module _ {program : Program} (texts : WithinProgram program) where
 
   from_within : (w : ℕ) {b b' : Bodies} → WithinBodies w b b' → (start : Start) → Within w (thread_from program b start) (thread_from program b' start)
   from_within w {b} h (Enters site vs) = step_within (touch_within (outside program b) h site.class) (apart_within (h.method site vs))
-  from_within w h (Runs (Lambda site k captured)) = apart_within (h.lambda site (captured_list captured) [])
   from_within w h (Runs Null) = pure_within Null
-  from_within w h (Runs object) = apart_within (h.method (program.resolves run_site (class_in object)) (object ∷ []))
+  from_within w {b} h (Runs object) = call_on_within (outside program b) h run_site object []
 
   same_outcome : {u : ℕ} {A : Type 0} {o o' : Outcome A} → AtMost u o o' → o ≡ o'
   same_outcome (asks p) = refl

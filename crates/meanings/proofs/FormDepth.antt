@@ -12,12 +12,13 @@ use Rattle.meanings.specs.declared.kotlin.KStmt.{KStmt}
 use Rattle.meanings.specs.declared.kotlin.KStmt.TheVariants as ks
 use Rattle.meanings.specs.declared.kotlin.KMain.{KMain}
 use Rattle.meanings.specs.declared.kotlin.KClass.{KClass}
-use Rattle.meanings.specs.Values.{Name, Value, is_null}
+use Rattle.meanings.specs.Values.{Name, Int, Value, is_null}
 use Rattle.meanings.specs.Outcome.{torn}
 use Rattle.meanings.specs.Values.{Torn}
-use Rattle.meanings.specs.Machine.{Place}
+use Rattle.meanings.specs.Operators.{operation}
+use Rattle.meanings.specs.Machine.{Place, print_line}
 use Rattle.meanings.specs.Program.{Body}
-use Rattle.meanings.specs.Static.{KType, is_non_null, Static, declared, extended}
+use Rattle.meanings.specs.Static.{KType, is_non_null, Static, declared, past, extended}
 use Rattle.meanings.specs.Java.{java_expr, java_stmt, java_main, java_method, java_program}
 use Rattle.meanings.specs.Kotlin.{used, kotlin_expr, kotlin_stmt, kotlin_stmts, kotlin_main, kotlin_method, kotlin_program}
 use Rattle.std.specs.Prelude.{Option, Some, None, option_map, filter_map, ◌&&◌}
@@ -28,18 +29,18 @@ use Rattle.meanings.proofs.Depth.{asks, Within, with_bodies, AllWithin, none, mo
 
 -- ---- Java
 
-module _ {w : ℕ} (p q : Place) where
+module _ {w : ℕ} (p q : Place) (prints : (v : Value) → Within w (print_line p v) (print_line q v)) where
   java_expr_within : (e : JExpr) → Within w (java_expr p e) (java_expr q e)
   java_expr_within = java_induct (λ e. Within w (java_expr p e) (java_expr q e)) (record {
     local = λ name. rw (java_at p (JExpr-F.Local name), java_at q (JExpr-F.Local name)) (local_within name);
     number = λ n. rw (java_at p (JExpr-F.Number n), java_at q (JExpr-F.Number n)) (pure_within _);
     paren = λ e within. rw (java_at p (JExpr-F.Paren e), java_at q (JExpr-F.Paren e)) within;
-    binary = λ a operator b left right. rw (java_at p (JExpr-F.Binary a operator b), java_at q (JExpr-F.Binary a operator b)) (binary_within (arithmetic_within _ operator) left right);
+    binary = λ a operator b left right. rw (java_at p (JExpr-F.Binary a operator b), java_at q (JExpr-F.Binary a operator b)) (binary_within (arithmetic_within (operation operator) Int Int) left right);
   })
 
   java_stmt_within : (s : JStmt) → Within w (java_stmt p s) (java_stmt q s)
   java_stmt_within (Local name e) = bind_within (java_expr_within e) (assign_within name)
-  java_stmt_within (Print e) = bind_within (java_expr_within e) print_line_within
+  java_stmt_within (Print e) = bind_within (java_expr_within e) prints
 
   java_stmts_within : (body : List JStmt) → AllWithin w (map (java_stmt p) body) (map (java_stmt q) body)
   java_stmts_within [] = none
@@ -47,7 +48,7 @@ module _ {w : ℕ} (p q : Place) where
 
 java_method_within : (class : Name) (main : Option JMain) (bodies : List Body) → WithinTexts bodies → WithinTexts (cons_option (option_map (java_main class) main) bodies)
 java_method_within class None bodies h = h
-java_method_within class (Some main) bodies h = (record { by = λ w p {b} {b'} h. sequence_within (java_stmts_within (with_bodies p b) (with_bodies p b') main.body) }, h)
+java_method_within class (Some main) bodies h = (record { by = λ w p {b} {b'} h. sequence_within (java_stmts_within (with_bodies p b) (with_bodies p b') (print_line_within p h) main.body) }, h)
 
 java_methods_within : (classes : List JClass) → WithinTexts (filter_map java_method classes)
 java_methods_within [] = tt
@@ -73,27 +74,27 @@ used_within : {w : ℕ} (type : Option KType) (v : Value) → Within w (used typ
 used_within None v = pure_within v
 used_within (Some type) v = if_within (is_non_null type && is_null v) torn_within (pure_within v)
 
-module _ {w : ℕ} (p q : Place) where
-  kotlin_expr_within : (static : Static) (e : KExpr) → Within w (kotlin_expr p static e) (kotlin_expr q static e)
-  kotlin_expr_within static = kotlin_induct (λ e. Within w (kotlin_expr p static e) (kotlin_expr q static e)) (record {
-    local = λ name. rw (kotlin_at p static (KExpr-F.Local name), kotlin_at q static (KExpr-F.Local name)) (bind_within (local_within name) (used_within (declared static name)));
-    number = λ n. rw (kotlin_at p static (KExpr-F.Number n), kotlin_at q static (KExpr-F.Number n)) (pure_within _);
-    paren = λ e within. rw (kotlin_at p static (KExpr-F.Paren e), kotlin_at q static (KExpr-F.Paren e)) within;
-    binary = λ a operator b left right.
-        rw (kotlin_at p static (KExpr-F.Binary a operator b), kotlin_at q static (KExpr-F.Binary a operator b)) (binary_within (arithmetic_within _ operator) left right);
+module _ {w : ℕ} (p q : Place) (prints : (v : Value) → Within w (print_line p v) (print_line q v)) where
+  kotlin_expr_within : (e : KExpr) (static : Static) → Within w (kotlin_expr e static p) (kotlin_expr e static q)
+  kotlin_expr_within = kotlin_induct (λ e. (static : Static) → Within w (kotlin_expr e static p) (kotlin_expr e static q)) (record {
+    local = λ name static. rw (kotlin_at (KExpr-F.Local name)) (bind_within (local_within name) (used_within (declared static name)));
+    number = λ n static. rw (kotlin_at (KExpr-F.Number n)) (pure_within _);
+    paren = λ e within static. rw (kotlin_at (KExpr-F.Paren e)) (within static);
+    binary = λ a operator b left right static.
+        rw (kotlin_at (KExpr-F.Binary a operator b)) (binary_within (arithmetic_within (operation operator) _ _) (left static) (right (past a static)));
   })
 
-  kotlin_stmt_within : (static : Static) (s : KStmt) → Within w (kotlin_stmt p static s) (kotlin_stmt q static s)
-  kotlin_stmt_within static (ks.Val name e) = bind_within (kotlin_expr_within static e) (assign_within name)
-  kotlin_stmt_within static (ks.Print e) = bind_within (kotlin_expr_within static e) print_line_within
+  kotlin_stmt_within : (static : Static) (s : KStmt) → Within w (kotlin_stmt s static p) (kotlin_stmt s static q)
+  kotlin_stmt_within static (ks.Val name e) = bind_within (kotlin_expr_within e static) (assign_within name)
+  kotlin_stmt_within static (ks.Print e) = bind_within (kotlin_expr_within e static) prints
 
-  kotlin_stmts_within : (static : Static) (body : List KStmt) → Within w (kotlin_stmts p static body) (kotlin_stmts q static body)
+  kotlin_stmts_within : (static : Static) (body : List KStmt) → Within w (kotlin_stmts body static p) (kotlin_stmts body static q)
   kotlin_stmts_within static [] = pure_within tt
   kotlin_stmts_within static (s ∷ body) = step_within (kotlin_stmt_within static s) (kotlin_stmts_within (extended static s) body)
 
 kotlin_method_within : (class : Name) (main : Option KMain) (bodies : List Body) → WithinTexts bodies → WithinTexts (cons_option (option_map (kotlin_main class) main) bodies)
 kotlin_method_within class None bodies h = h
-kotlin_method_within class (Some main) bodies h = (record { by = λ w p {b} {b'} h. kotlin_stmts_within (with_bodies p b) (with_bodies p b') _ main.body }, h)
+kotlin_method_within class (Some main) bodies h = (record { by = λ w p {b} {b'} h. kotlin_stmts_within (with_bodies p b) (with_bodies p b') (print_line_within p h) _ main.body }, h)
 
 kotlin_methods_within : (classes : List KClass) → WithinTexts (filter_map kotlin_method classes)
 kotlin_methods_within [] = tt

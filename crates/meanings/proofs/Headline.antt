@@ -1,151 +1,66 @@
 -- The headline's theorem: the Kotlin of a project makes the steps of the project, in every run.
-use Rattle.std.proofs.Common.{◌≡◌, ◌≢◌, ℕ, zero, suc, List, [], ◌∷◌, ◌++◌, map, Option, Some, None, slice_get, slice_set, refl, sym, ◌∙◌, ap, subst}
-use Rattle.std.specs.Prelude.{option_map, filter_map}
+use Rattle.std.proofs.Common.{◌≡◌, ℕ, Bool, true, false, ◌&&◌, ◌==◌, List, [], ◌∷◌, Option, Some, None, if◌then◌else◌, refl, sym, ◌∙◌, ap, subst, inl, inr}
+use Rattle.std.specs.Prelude.{option_map, filter_map, codes}
 use Rattle.std.specs.List.{cons_option}
-use Rattle.meanings.specs.declared.java.JExpr.{JExpr}
-use Rattle.meanings.specs.declared.java.JExpr.TheOpen.{JExpr-F}
-use Rattle.meanings.specs.declared.java.JStmt.{JStmt}
-use Rattle.meanings.specs.declared.java.JStmt.TheVariants.{Local, Print}
 use Rattle.meanings.specs.declared.java.JMain.{JMain}
 use Rattle.meanings.specs.declared.java.JClass.{JClass}
 use Rattle.meanings.specs.declared.java.JFile.{JFile}
 use Rattle.meanings.specs.declared.kotlin.KMain.{KMain}
 use Rattle.meanings.specs.declared.kotlin.KClass.{KClass}
 use Rattle.meanings.specs.Convert.{main_of, class_of, classes_of, files_of}
-use Rattle.meanings.specs.Values.{Name, Site, Value, Step, Touch, InitEnd, Alloc, Built, Get, Put, GetStatic, PutStatic, GetElem, PutElem, Enter, Exit, Print as PrintStep, ReadByte, Lib, Raise, Start as StartStep, Join, End, Torn, Answer, Ready, Run, Mine, Failed, Done, Given, Raised}
-use Rattle.meanings.specs.Machine.{Place}
-use Rattle.meanings.specs.Program.{Body, main_entry, Turn, Next, IsBusy, Ended, Start}
-use Rattle.meanings.specs.World.{World, Reply, answer}
-use Rattle.meanings.specs.Runs.{Thread, Behavior, begun, with_new, replied, turned, turn_of, run, NeverTorn}
-use Rattle.meanings.specs.Java.{java_expr, java_stmt, java_main, java_method, entry_class as java_entry_class, classes_in as java_classes_in, java_program, JavaThread}
+use Rattle.meanings.specs.Values.{Name, same_name, Site, same_site, Value, Answer}
+use Rattle.meanings.specs.Program.{Body, main_site, main_entry, Start}
+use Rattle.meanings.specs.World.{World}
+use Rattle.meanings.specs.Runs.{Thread, run, NeverTorn}
+use Rattle.meanings.specs.Java.{java_main, java_method, entry_class as java_entry_class, classes_in as java_classes_in, java_program, JavaThread}
 use Rattle.meanings.specs.Kotlin.{entry_class as kotlin_entry_class, classes_in as kotlin_classes_in, kotlin_program, KotlinThread}
-use Rattle.meanings.specs.Entries.{Entry, Input, first_world, first_threads, run_of}
-use Rattle.meanings.specs.SameSteps.{SameSteps}
-use Rattle.meanings.proofs.Calm.{Calm, CalmTexts, CalmProgram, AllCalm, none, more, bind_calm, pure_calm, local_calm, assign_calm, arithmetic_calm, binary_calm, print_line_calm, sequence_calm, thread_calm}
-use Rattle.meanings.proofs.Layers.{java_induct, java_at}
-use Rattle.meanings.proofs.RunLaws.{Kept, run_same, run_never_torn}
-use Rattle.meanings.proofs.SameText.{IsGiven, thread_same}
+use Rattle.meanings.specs.Entries.{Takes, Strings, Entry, Input, count_of, AllStrings, Fits, passed, first_world, first_threads, run_of}
+use Rattle.meanings.specs.SameSteps.{SameSteps, Entries, AreMains, AreConfigured}
+use Rattle.meanings.proofs.RunLaws.{AllStarts}
+use Rattle.meanings.proofs.Starts.{starts_same}
+use Rattle.meanings.proofs.KotlinSafe.{kotlin_never_torn}
+use Rattle.meanings.proofs.SameText.{AllGiven, stands, IsGiven, CalmTurn, thread_same, thread_calm}
+use Rattle.meanings.proofs.SameValues.{same_site_self}
 
--- ---- a Java thread of this form never asks Torn
+-- ---- runs from starts at bodies that are there
 
-expr_calm : (p : Place) (e : JExpr) → Calm (java_expr p e)
-expr_calm p = java_induct (λ e. Calm (java_expr p e)) (record {
-  local = λ name. rw (java_at p (JExpr-F.Local name)) (local_calm name);
-  number = λ n. rw (java_at p (JExpr-F.Number n)) (pure_calm _);
-  paren = λ e calm. rw (java_at p (JExpr-F.Paren e)) calm;
-  binary = λ a operator b left right. rw (java_at p (JExpr-F.Binary a operator b)) (binary_calm (arithmetic_calm _ operator) left right);
-})
+kotlin_calm : (classes : List JClass) (start : Start) → IsGiven classes start → (answers : List Answer) (n : ℕ) → CalmTurn (KotlinThread (classes_of classes) start answers n)
+kotlin_calm classes start given answers n = rw (thread_same classes start given answers n) (thread_calm classes start given answers n)
 
-stmt_calm : (p : Place) (s : JStmt) → Calm (java_stmt p s)
-stmt_calm p (Local name e) = bind_calm (expr_calm p e) (assign_calm name)
-stmt_calm p (Print e) = bind_calm (expr_calm p e) print_line_calm
+run_of_project : (classes : List JClass) (n : ℕ) (w : World) (ts : List Thread) → AllStarts (IsGiven classes) ts → (schedule : List ℕ) → run (KotlinThread (classes_of classes)) n w ts schedule ≡ run (JavaThread classes) n w ts schedule
+run_of_project classes n = starts_same (IsGiven classes) (KotlinThread (classes_of classes)) (kotlin_calm classes) n (JavaThread classes) (λ start given answers. thread_same classes start given answers n)
 
-stmts_calm : (p : Place) (body : List JStmt) → AllCalm (map (java_stmt p) body)
-stmts_calm p [] = none
-stmts_calm p (s ∷ body) = more (stmt_calm p s) (stmts_calm p body)
+-- ---- the first thread
 
-method_calm : (class : Name) (main : Option JMain) (bodies : List Body) → CalmTexts bodies → CalmTexts (cons_option (option_map (java_main class) main) bodies)
-method_calm class None bodies calm = calm
-method_calm class (Some main) bodies calm = (λ p h. sequence_calm (stmts_calm p main.body), calm)
+stands_first : (b c : Bool) → c ≡ true → (if b then true else c) ≡ true
+stands_first true c h = refl
+stands_first false c h = h
 
-methods_calm : (classes : List JClass) → CalmTexts (filter_map java_method classes)
-methods_calm [] = tt
-methods_calm (class ∷ classes) = method_calm class.name class.main _ (methods_calm classes)
+-- where the entry point is found a body stands
+found_first : (class : Name) (main : Option JMain) (rest : List Body) (names : List Name) (name method : Name) (count : ℕ) (site : Site) →
+    (main_entry names name method count ≡ Some site → stands rest site ≡ true) →
+    main_entry (cons_option (option_map (λ (m : JMain). class) main) names) name method count ≡ Some site → stands (cons_option (option_map (java_main class) main) rest) site ≡ true
+found_first class None rest names name method count site h e = h e
+found_first class (Some main) rest names name method count site h e = go (same_name name class && same_name method (codes "main") && (count == 1)) e
+  where
+    go : (b : Bool) → (if b then Some (main_site class) else main_entry names name method count) ≡ Some site → (if same_site (main_site class) site then true else stands rest site) ≡ true
+    go true e = let same : main_site class ≡ site = cc in subst (λ (x : Site). (if same_site (main_site class) x then true else stands rest x) ≡ true) same (rw (same_site_self (main_site class)) refl)
+    go false e = stands_first (same_site (main_site class) site) (stands rest site) (h e)
 
-pub java_calm : (classes : List JClass) → CalmProgram (java_program classes)
-java_calm classes = record { methods = methods_calm classes; constructors = tt; lambdas = tt; initializers = tt }
+pub found_stands : (classes : List JClass) (name method : Name) (count : ℕ) (site : Site) → main_entry (filter_map java_entry_class classes) name method count ≡ Some site → stands (filter_map java_method classes) site ≡ true
+found_stands [] name method count site e = cc
+found_stands (class ∷ classes) name method count site e = found_first class.name class.main _ _ name method count site (found_stands classes name method count site) e
 
--- ---- each thread starts with given arguments
-
-abbrev StartsGiven : List Thread → Type 0
-StartsGiven [] = Unit {0}
-StartsGiven (t ∷ ts) = IsGiven t.start × StartsGiven ts
-
-start_at : (ts : List Thread) → StartsGiven ts → (i : ℕ) (t : Thread) → slice_get ts i ≡ Some t → IsGiven t.start
-start_at [] h i t e = cc
-start_at (u ∷ ts) h zero t e = let same : u ≡ t = cc in subst (λ (x : Thread). IsGiven x.start) same h.0
-start_at (u ∷ ts) h (suc i) t e = start_at ts h.1 i t e
-
-set_given : (ts : List Thread) → StartsGiven ts → (i : ℕ) (t : Thread) → IsGiven t.start → StartsGiven (slice_set ts i t)
-set_given [] h i t g = tt
-set_given (u ∷ ts) h zero t g = (g, h.1)
-set_given (u ∷ ts) h (suc i) t g = (h.0, set_given ts h.1 i t g)
-
-snoc_given : (ts : List Thread) → StartsGiven ts → (t : Thread) → IsGiven t.start → StartsGiven (ts ++ t ∷ [])
-snoc_given [] h t g = (g, tt)
-snoc_given (u ∷ ts) h t g = (h.0, snoc_given ts h.1 t g)
-
-begun_given : (w : World) (object : Value) (a : Answer) (ts : List Thread) → StartsGiven ts → StartsGiven (begun w object a ts)
-begun_given w object Done ts h = snoc_given ts h _ tt
-begun_given w object Ready ts h = h
-begun_given w object Run ts h = h
-begun_given w object Mine ts h = h
-begun_given w object Failed ts h = h
-begun_given w object (Given v) ts h = h
-begun_given w object (Raised v) ts h = h
-
-with_new_given : (w : World) (p : Step) (a : Answer) (ts : List Thread) → StartsGiven ts → StartsGiven (with_new w p a ts)
-with_new_given w (StartStep object) a ts h = begun_given w object a ts h
-with_new_given w (Touch class) a ts h = h
-with_new_given w (InitEnd class well) a ts h = h
-with_new_given w (Alloc shape) a ts h = h
-with_new_given w (Built v) a ts h = h
-with_new_given w (Get v field) a ts h = h
-with_new_given w (Put v field new) a ts h = h
-with_new_given w (GetStatic field) a ts h = h
-with_new_given w (PutStatic field new) a ts h = h
-with_new_given w (GetElem v k) a ts h = h
-with_new_given w (PutElem v k new) a ts h = h
-with_new_given w (Enter v) a ts h = h
-with_new_given w (Exit v) a ts h = h
-with_new_given w (PrintStep units) a ts h = h
-with_new_given w ReadByte a ts h = h
-with_new_given w (Lib row vs) a ts h = h
-with_new_given w (Raise class) a ts h = h
-with_new_given w (Join v) a ts h = h
-with_new_given w (End ending) a ts h = h
-with_new_given w Torn a ts h = h
-
-replied_given : (w : World) (ts : List Thread) (i : ℕ) (t : Thread) (p : Step) (r : Reply) → StartsGiven ts → IsGiven t.start → StartsGiven (replied w ts i t p r).threads
-replied_given w ts i t p None h g = h
-replied_given w ts i t p (Some reply) h g = with_new_given w p reply.1 _ (set_given ts h i _ g)
-
-turned_given : (w : World) (ts : List Thread) (i : ℕ) (t : Thread) (r : Turn) → StartsGiven ts → IsGiven t.start → StartsGiven (turned w ts i t r).threads
-turned_given w ts i t (Next p) h g = replied_given w ts i t p (answer w i p) h g
-turned_given w ts i t IsBusy h g = h
-turned_given w ts i t Ended h g = h
-
-turn_given : (next : Behavior) (n : ℕ) (w : World) (ts : List Thread) (i : ℕ) (o : Option Thread) → slice_get ts i ≡ o → StartsGiven ts → StartsGiven (turn_of next n w ts i o).threads
-turn_given next n w ts i None is h = h
-turn_given next n w ts i (Some t) is h = turned_given w ts i t (next t.start t.had n) h (start_at ts h i t is)
-
-kept : (next : Behavior) (n : ℕ) → Kept next n (λ w ts. StartsGiven ts)
-kept next n = record { kept = λ w ts i h. turn_given next n w ts i (slice_get ts i) refl h }
-
--- ---- runs
-
-first_given : (o : Option Site) (input : Input) → StartsGiven (first_threads o input)
-first_given None input = tt
-first_given (Some site) input = ((refl, tt), tt)
-
-pub run_of_project : (classes : List JClass) (n : ℕ) (w : World) (ts : List Thread) → StartsGiven ts → (schedule : List ℕ) → run (KotlinThread (classes_of classes)) n w ts schedule ≡ run (JavaThread classes) n w ts schedule
-run_of_project classes n w ts h schedule =
-    run_same (KotlinThread (classes_of classes)) (JavaThread classes) n (λ w ts. StartsGiven ts) (λ w ts h i t is. thread_same classes t.start (start_at ts h i t is) t.had n) (kept (KotlinThread (classes_of classes)) n) w ts h schedule
-
--- a Kotlin thread with given arguments never asks Torn either
-kotlin_calm : (classes : List JClass) (start : Start) → IsGiven start → (answers : List Answer) (n : ℕ) → KotlinThread (classes_of classes) start answers n ≢ Next Torn
-kotlin_calm classes start given answers n e = thread_calm (java_calm classes) start answers n (sym (thread_same classes start given answers n) ∙ e)
-
-never_torn_of_project : (classes : List JClass) (n : ℕ) (w : World) (ts : List Thread) → StartsGiven ts → (schedule : List ℕ) → NeverTorn (run (KotlinThread (classes_of classes)) n w ts schedule)
-never_torn_of_project classes n w ts h schedule =
-    run_never_torn (KotlinThread (classes_of classes)) n (λ w ts. StartsGiven ts) (λ w ts h i t is. kotlin_calm classes t.start (start_at ts h i t is) t.had n) (kept (KotlinThread (classes_of classes)) n) w ts h schedule
+first_given : (classes : List JClass) (vs : List Value) → AllGiven vs → (o : Option Site) → ((site : Site) → o ≡ Some site → stands (filter_map java_method classes) site ≡ true) → AllStarts (IsGiven classes) (first_threads o vs)
+first_given classes vs given None h = tt
+first_given classes vs given (Some site) h = ((h site refl, given), tt)
 
 -- the classes of the files, and those of them that have a `main`, are the same
 class_kept : (class : Option JClass) (classes : List JClass) → cons_option (option_map class_of class) (classes_of classes) ≡ classes_of (cons_option class classes)
 class_kept None classes = refl
 class_kept (Some class) classes = refl
 
-classes_kept : (files : List JFile) → kotlin_classes_in (files_of files) ≡ classes_of (java_classes_in files)
+pub classes_kept : (files : List JFile) → kotlin_classes_in (files_of files) ≡ classes_of (java_classes_in files)
 classes_kept [] = refl
 classes_kept (file ∷ files) =
     ap (cons_option (option_map class_of file.class)) (classes_kept files) ∙ class_kept file.class (java_classes_in files)
@@ -160,28 +75,63 @@ names_kept (class ∷ classes) =
     ap (λ (name : Option Name). cons_option name (filter_map kotlin_entry_class (classes_of classes))) (name_kept class.name class.main)
     ∙ ap (cons_option (java_entry_class class)) (names_kept classes)
 
--- so the same threads begin
-threads_kept : (classes : List JClass) (class method : Name) (input : Input) →
-    first_threads (main_entry (filter_map kotlin_entry_class (classes_of classes)) class method) input ≡ first_threads (main_entry (filter_map java_entry_class classes) class method) input
-threads_kept classes class method input = ap (λ (names : List Name). first_threads (main_entry names class method) input) (names_kept classes)
+-- so an entry point is at the same place
+pub sites_kept : (classes : List JClass) (class method : Name) (count : ℕ) →
+    main_entry (filter_map kotlin_entry_class (classes_of classes)) class method count ≡ main_entry (filter_map java_entry_class classes) class method count
+sites_kept classes class method count = ap (λ (names : List Name). main_entry names class method count) (names_kept classes)
 
--- the runs of classes and of their Kotlin
-classes_same : (classes : List JClass) (entry : Entry) (input : Input) (schedule : List ℕ) (n : ℕ) →
-    run_of (kotlin_program (classes_of classes)) entry input schedule n ≡ run_of (java_program classes) entry input schedule n
-classes_same classes entry input schedule n =
-    ap (λ (ts : List Thread). run (KotlinThread (classes_of classes)) n (first_world (java_program classes) input) ts schedule) (threads_kept classes entry.class entry.method input)
-    ∙ run_of_project classes n (first_world (java_program classes) input) (first_threads (main_entry (filter_map java_entry_class classes) entry.class entry.method) input) (first_given _ input) schedule
+-- what a `main` is given is an array
+abbrev IsMain : Entry → Type 0
+IsMain entry = entry.takes ≡ Strings
 
-classes_never_torn : (classes : List JClass) (entry : Entry) (input : Input) (schedule : List ℕ) (n : ℕ) → NeverTorn (run_of (kotlin_program (classes_of classes)) entry input schedule n)
-classes_never_torn classes entry input schedule n =
-    never_torn_of_project classes n (first_world (java_program classes) input) (first_threads (main_entry (filter_map kotlin_entry_class (classes_of classes)) entry.class entry.method) input)
-    (first_given _ input) schedule
+main_given : (takes : Takes) (vs : List Value) → takes ≡ Strings → AllGiven (passed takes vs)
+main_given takes vs is = rw is (refl, tt)
+
+mains_are_main : (names : List Name) (entry : Entry) → AreMains names entry → IsMain entry
+mains_are_main [] entry h = absurd h
+mains_are_main (class ∷ names) entry (inl is) = ap (λ (e : Entry). e.takes) is
+mains_are_main (class ∷ names) entry (inr h) = mains_are_main names entry h
+
+none_configured : (java : List JFile) (texts : List Name) (entry : Entry) → AreConfigured java texts entry → IsMain entry
+none_configured java [] entry h = absurd h
+none_configured java (text ∷ texts) entry (inl h) = absurd h
+none_configured java (text ∷ texts) entry (inr h) = none_configured java texts entry h
+
+entries_are_main : (java : List JFile) (configured : List Name) (entry : Entry) → Entries java configured entry → IsMain entry
+entries_are_main java configured entry (inl h) = mains_are_main _ entry h
+entries_are_main java configured entry (inr h) = none_configured java configured entry h
+
+module _ (classes : List JClass) (entry : Entry) (main : IsMain entry) (input : Input) (schedule : List ℕ) (n : ℕ) where
+  -- the first thread starts well
+  begins : AllStarts (IsGiven classes) (first_threads (main_entry (filter_map java_entry_class classes) entry.class entry.method (count_of entry.takes)) (passed entry.takes input.arguments))
+  begins = first_given classes _ (main_given entry.takes input.arguments main) _ (found_stands classes entry.class entry.method (count_of entry.takes))
+
+  threads_kept : first_threads (main_entry (filter_map kotlin_entry_class (classes_of classes)) entry.class entry.method (count_of entry.takes)) (passed entry.takes input.arguments)
+      ≡ first_threads (main_entry (filter_map java_entry_class classes) entry.class entry.method (count_of entry.takes)) (passed entry.takes input.arguments)
+  threads_kept = ap (λ (o : Option Site). first_threads o (passed entry.takes input.arguments)) (sites_kept classes entry.class entry.method (count_of entry.takes))
+
+  -- the runs of classes and of their Kotlin
+  classes_same : run_of (kotlin_program (classes_of classes)) entry input schedule n ≡ run_of (java_program classes) entry input schedule n
+  classes_same =
+      ap (λ (ts : List Thread). run (KotlinThread (classes_of classes)) n (first_world (java_program classes) entry.takes input) ts schedule) threads_kept
+      ∙ run_of_project classes n (first_world (java_program classes) entry.takes input) _ begins schedule
+
+  classes_never_torn : AllStrings input.arguments → NeverTorn (run_of (kotlin_program (classes_of classes)) entry input schedule n)
+  classes_never_torn strings =
+      subst (λ (ts : List Thread). NeverTorn (run (KotlinThread (classes_of classes)) n (first_world (kotlin_program (classes_of classes)) entry.takes input) ts schedule)) (sym threads_kept)
+      (subst (λ (takes : Takes). NeverTorn (run (KotlinThread (classes_of classes)) n (first_world (kotlin_program (classes_of classes)) takes input) (first_threads (main_entry (filter_map java_entry_class classes) entry.class entry.method (count_of takes)) (passed takes input.arguments)) schedule)) (sym main)
+      (kotlin_never_torn classes input strings entry.class entry.method 1 n schedule))
+
+-- the arguments of a `main` are Strings
+fits_main : (takes : Takes) (vs : List Value) → takes ≡ Strings → Fits takes vs → AllStrings vs
+fits_main takes vs is fits = subst (λ (takes : Takes). Fits takes vs) is fits
 
 -- the headline's theorem, for every project of the form
-pub same_steps : (files : List JFile) → SameSteps files (files_of files)
-same_steps files = record {
-  same = λ entry is input schedule n.
-      ap (λ (classes : List KClass). run_of (kotlin_program classes) entry input schedule n) (classes_kept files) ∙ classes_same (java_classes_in files) entry input schedule n;
-  never_torn = λ entry is input schedule n.
-      subst (λ (classes : List KClass). NeverTorn (run_of (kotlin_program classes) entry input schedule n)) (sym (classes_kept files)) (classes_never_torn (java_classes_in files) entry input schedule n);
+pub same_steps : (files : List JFile) (configured : List Name) → SameSteps files configured (files_of files)
+same_steps files configured = record {
+  same = λ entry is input fits schedule n.
+      ap (λ (classes : List KClass). run_of (kotlin_program classes) entry input schedule n) (classes_kept files) ∙ classes_same (java_classes_in files) entry (entries_are_main files configured entry is) input schedule n;
+  never_torn = λ entry is input fits schedule n.
+      subst (λ (classes : List KClass). NeverTorn (run_of (kotlin_program classes) entry input schedule n)) (sym (classes_kept files))
+      (classes_never_torn (java_classes_in files) entry (entries_are_main files configured entry is) input schedule n (fits_main entry.takes input.arguments (entries_are_main files configured entry is) fits));
 }

@@ -11,7 +11,7 @@ use Rattle.meanings.specs.Outcome.{Meaning}
 use Rattle.meanings.specs.Machine.{Place}
 use Rattle.meanings.specs.Static.{KType, Static, type_by, type_of}
 use Rattle.meanings.specs.Java.{java_by, java_expr}
-use Rattle.meanings.specs.Kotlin.{kotlin_by, kotlin_expr}
+use Rattle.meanings.specs.Kotlin.{Doing, kotlin_by, kotlin_expr}
 use Rattle.meanings.specs.Convert.{expression_by, expression_of}
 use Rattle.meanings.specs.KText.{expression_by as text_by, expression_text}
 use Rattle.meanings.specs.JNamed.{level_by as java_level_by, level_of as java_level_of}
@@ -130,13 +130,13 @@ rolled (JExpr-F.Binary a operator b) = sym (ke.rolls-Binary (expression_of a) op
 pub convert_at : (x : JExpr-F JExpr) → expression_of (roll-JExpr x) ≡ roll-KExpr (layer_of x)
 convert_at x = converted_at x ∙ rolled x
 
-pub kotlin_at : (p : Place) (static : Static) (x : KExpr-F KExpr) → kotlin_expr p static (roll-KExpr x) ≡ kotlin_by p static (map-KExpr KExpr (KExpr × Meaning Value) (λ y. (y, kotlin_expr p static y)) x)
+pub kotlin_at : (x : KExpr-F KExpr) → kotlin_expr (roll-KExpr x) ≡ kotlin_by (map-KExpr KExpr (KExpr × Doing Value) (λ y. (y, kotlin_expr y)) x)
 unfolding kotlin_expr
-kotlin_at p static x = para-roll-KExpr (Meaning Value) (kotlin_by p static) x
+kotlin_at x = para-roll-KExpr (Doing Value) kotlin_by x
 
-pub type_at : (static : Static) (x : KExpr-F KExpr) → type_of static (roll-KExpr x) ≡ type_by static (map-KExpr KExpr (Option KType) (type_of static) x)
+pub type_at : (x : KExpr-F KExpr) → type_of (roll-KExpr x) ≡ type_by (map-KExpr KExpr (KExpr × (Static → Option KType)) (λ y. (y, type_of y)) x)
 unfolding type_of
-type_at static x = fold-roll-KExpr (Option KType) (type_by static) x
+type_at x = para-roll-KExpr (Static → Option KType) type_by x
 
 pub text_at : (x : KExpr-F KExpr) → expression_text (roll-KExpr x) ≡ text_by (map-KExpr KExpr (List ℕ) expression_text x)
 unfolding expression_text

@@ -1,10 +1,25 @@
 mod Worked
 mod WorkedMachine
+mod WorkedShared
 pub mod Layers
-pub mod Calm
+pub mod Starts
 pub mod RunLaws
 pub mod SameText
 pub mod Headline
+pub mod Entered
+pub mod SameLaws
+pub mod Construction
+pub mod SamePrograms
+pub mod Lists
+pub mod KnownLaws
+pub mod SafeLaws
+pub mod WorldLaws
+pub mod SafeSteps
+pub mod SafeBodies
+pub mod SafePlaces
+pub mod SafePrograms
+pub mod Schedules
+pub mod KotlinSafe
 pub mod Depth
 pub mod FormDepth
 pub mod SameValues
@@ -15,4 +30,5 @@ pub mod Words
 pub mod Expressions
 pub mod Spelling
 pub mod Numbers
+pub mod Texts
 pub mod LawsToCite

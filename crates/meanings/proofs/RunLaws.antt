@@ -1,13 +1,10 @@
 -- Equal threads give equal runs, under an invariant that each turn keeps.
 use Rattle.std.proofs.Common.{◌≡◌, ◌≢◌, ℕ, List, [], ◌∷◌, Option, Some, None, slice_get, refl, ap, ◌∙◌}
+use Rattle.meanings.specs.Laws.{IsKept, MatchingTurns}
 use Rattle.meanings.specs.Values.{Step, Torn}
 use Rattle.meanings.specs.Program.{Start, Turn, Next, IsBusy, Ended}
 use Rattle.meanings.specs.World.{World, Reply, answer}
 use Rattle.meanings.specs.Runs.{Item, Thread, Behavior, After, replied, turned, turn_of, run, IsTorn, NeverTorn}
-
--- What holds of the world and the threads, and is kept by each turn of one behaviour.
-pub record Kept (next : Behavior) (n : ℕ) (Holds : World → List Thread → Type 0) : Type 0 where
-  pub kept : (w : World) (ts : List Thread) (i : ℕ) → Holds w ts → Holds (turn_of next n w ts i (slice_get ts i)).world (turn_of next n w ts i (slice_get ts i)).threads
 
 module _ (next next' : Behavior) (n : ℕ) (Holds : World → List Thread → Type 0)
     (same : (w : World) (ts : List Thread) → Holds w ts → (i : ℕ) (t : Thread) → slice_get ts i ≡ Some t → next t.start t.had n ≡ next' t.start t.had n) where
@@ -15,7 +12,7 @@ module _ (next next' : Behavior) (n : ℕ) (Holds : World → List Thread → Ty
   turn_of_same w ts h i None is = refl
   turn_of_same w ts h i (Some t) is = ap (turned w ts i t) (same w ts h i t is)
 
-  pub run_same : Kept next n Holds → (w : World) (ts : List Thread) → Holds w ts → (schedule : List ℕ) → run next n w ts schedule ≡ run next' n w ts schedule
+  pub run_same : IsKept next n Holds → (w : World) (ts : List Thread) → Holds w ts → (schedule : List ℕ) → run next n w ts schedule ≡ run next' n w ts schedule
   run_same keeps w ts h [] = refl
   run_same keeps w ts h (i ∷ schedule) =
       ap (λ items. (turn_of next n w ts i (slice_get ts i)).item ∷ items) (run_same keeps (turn_of next n w ts i (slice_get ts i)).world (turn_of next n w ts i (slice_get ts i)).threads (keeps.kept w ts i h) schedule)
@@ -23,13 +20,7 @@ module _ (next next' : Behavior) (n : ℕ) (Holds : World → List Thread → Ty
 
 -- ---- two worlds
 
--- what relates two worlds and the threads, so that a turn records the same in both and leaves the same threads
-pub record Matching (next next' : Behavior) (n : ℕ) (Holds : World → World → List Thread → Type 0) : Type 0 where
-  pub item : (w w' : World) (ts : List Thread) (i : ℕ) → Holds w w' ts → (turn_of next n w ts i (slice_get ts i)).item ≡ (turn_of next' n w' ts i (slice_get ts i)).item
-  pub threads : (w w' : World) (ts : List Thread) (i : ℕ) → Holds w w' ts → (turn_of next n w ts i (slice_get ts i)).threads ≡ (turn_of next' n w' ts i (slice_get ts i)).threads
-  pub kept : (w w' : World) (ts : List Thread) (i : ℕ) → Holds w w' ts → Holds (turn_of next n w ts i (slice_get ts i)).world (turn_of next' n w' ts i (slice_get ts i)).world (turn_of next n w ts i (slice_get ts i)).threads
-
-pub run_matching : (next next' : Behavior) (n : ℕ) (Holds : World → World → List Thread → Type 0) → Matching next next' n Holds →
+pub run_matching : (next next' : Behavior) (n : ℕ) (Holds : World → World → List Thread → Type 0) → MatchingTurns next next' n Holds →
     (w w' : World) (ts : List Thread) → Holds w w' ts → (schedule : List ℕ) → run next n w ts schedule ≡ run next' n w' ts schedule
 run_matching next next' n Holds m w w' ts h [] = refl
 run_matching next next' n Holds m w w' ts h (i ∷ schedule) =
@@ -56,7 +47,7 @@ module _ (next : Behavior) (n : ℕ) (Holds : World → List Thread → Type 0)
   turn_not_torn w ts h i None is torn = torn
   turn_not_torn w ts h i (Some t) is torn = turned_not_torn w ts i t (next t.start t.had n) (calm w ts h i t is) torn
 
-  pub run_never_torn : Kept next n Holds → (w : World) (ts : List Thread) → Holds w ts → (schedule : List ℕ) → NeverTorn (run next n w ts schedule)
+  pub run_never_torn : IsKept next n Holds → (w : World) (ts : List Thread) → Holds w ts → (schedule : List ℕ) → NeverTorn (run next n w ts schedule)
   run_never_torn keeps w ts h [] = tt
   run_never_torn keeps w ts h (i ∷ schedule) =
       (turn_not_torn w ts h i (slice_get ts i) refl, run_never_torn keeps (turn_of next n w ts i (slice_get ts i)).world (turn_of next n w ts i (slice_get ts i)).threads (keeps.kept w ts i h) schedule)

@@ -1,5 +1,5 @@
 -- The text of a class of this form does in Kotlin what it does in Java.
-use Rattle.std.proofs.Common.{◌≡◌, ℕ, zero, suc, ◌+◌, pos, Bool, true, false, ◌&&◌, List, [], ◌∷◌, map, length, Option, Some, None, if◌then◌else◌, refl, ap}
+use Rattle.std.proofs.Common.{◌≡◌, ℕ, zero, suc, ◌+◌, pos, Bool, true, false, ◌&&◌, List, [], ◌∷◌, ◌++◌, map, ◌∙◌, length, Option, Some, None, if◌then◌else◌, refl, ap, sym, subst}
 use Rattle.std.specs.Prelude.{option_map, filter_map}
 use Rattle.std.specs.List.{cons_option}
 use Rattle.meanings.specs.declared.java.JExpr.{JExpr, map-JExpr, fold-JExpr, fold-roll-JExpr, roll-JExpr}
@@ -11,54 +11,101 @@ use Rattle.meanings.specs.declared.java.JStmt.TheVariants.{Local, Print}
 use Rattle.meanings.specs.declared.java.JMain.{JMain}
 use Rattle.meanings.specs.declared.java.JClass.{JClass}
 use Rattle.meanings.specs.Convert.{expression_of, statement_of, main_of, classes_of}
-use Rattle.meanings.specs.Values.{Name, same_name, Site, same_site, Kind, Value, Null, Integer, Lambda, captured_list, Int, Step, Answer, Ready, Run, Mine, Failed, Done, Given, Raised, is_null, integer_in, narrowed}
-use Rattle.meanings.specs.Outcome.{Locals, get, State, Outcome, Asks, Busy, Gives, Jumps, Meaning, then_do, pure, torn, ◌>>◌, ask_from, pay_from, assign_all}
-use Rattle.meanings.specs.Machine.{Bodies, Place, operated, received, print_line, returned, sequence}
-use Rattle.meanings.specs.Program.{Program, Body, Start, Enters, Runs, thread_from, turn, enter, place, bodies, run_site, main_site}
-use Rattle.meanings.specs.Static.{KType, type_of, is_non_null, Static, declared, extended, main_static}
+use Rattle.meanings.specs.declared.operators.Operator.{Operator}
+use Rattle.meanings.specs.declared.operators.Operator.TheVariants.{Plus, Minus, Times}
+use Rattle.j2k_base.specs.declared.constants.Const.{Const}
+use Rattle.const_fold.specs.Constants.{operated}
+use Rattle.meanings.specs.Values.{Name, same_name, Simple, Site, same_site, Kind, Value, Null, Integer, Boolean, Units, Class, Companion, Object, Array, Lambda, Int, Step, Print as PrintStep, Start as StartStep, Answer, Ready, Run, Mine, Failed, Done, Given, Raised, is_null, integer_in, text_of}
+use Rattle.meanings.specs.Operators.{operation}
+use Rattle.meanings.specs.Outcome.{Locals, get, State, Exits, Returns, Throws, Outcome, Asks, Busy, Gives, Jumps, Meaning, then_do, pure, torn, ◌>>◌, ask_from, pay_from, assign_all}
+use Rattle.meanings.specs.Machine.{Bodies, Place, valued, arithmetic, received, ask_done, print_line, returned, sequence}
+use Rattle.meanings.specs.Program.{Program, Body, Start, Enters, Runs, thread_from, turn, Turn, Next, IsBusy, Ended, at_end, enter, place, bodies, main_site}
+use Rattle.meanings.specs.Static.{KType, type_of, is_non_null, Static, declared, past, extended, main_static}
 use Rattle.meanings.specs.Java.{java_expr, java_stmt, java_main, java_method, java_program, JavaThread}
 use Rattle.meanings.specs.Kotlin.{used, operator_kind, kotlin_expr, kotlin_stmts, kotlin_main, kotlin_method, kotlin_program, KotlinThread}
 use Rattle.meanings.proofs.Layers.{java_induct, java_at, convert_at, kotlin_at}
 
--- ---- no value is null
+-- ---- no value is null, nor an object, whose text would be a body's
+
+abbrev pub is_plain : Value → Bool
+is_plain Null = false
+is_plain (Object class k captured) = false
+is_plain (Integer kind z) = true
+is_plain (Boolean b) = true
+is_plain (Units units) = true
+is_plain (Class name) = true
+is_plain (Companion name) = true
+is_plain (Array elements length k) = true
+is_plain (Lambda site k captured) = true
+
+plain_not_null : (v : Value) → is_plain v ≡ true → is_null v ≡ false
+plain_not_null Null h = cc
+plain_not_null (Object class k captured) h = refl
+plain_not_null (Integer kind z) h = refl
+plain_not_null (Boolean b) h = refl
+plain_not_null (Units units) h = refl
+plain_not_null (Class name) h = refl
+plain_not_null (Companion name) h = refl
+plain_not_null (Array elements length k) h = refl
+plain_not_null (Lambda site k captured) h = refl
 
 abbrev pub AllGiven : List Value → Type 0
 AllGiven [] = Unit {0}
-AllGiven (v ∷ vs) = (is_null v ≡ false) × AllGiven vs
+AllGiven (v ∷ vs) = (is_plain v ≡ true) × AllGiven vs
 
+-- whatever name is read
 abbrev pub LocalsGiven : Locals → Type 0
-LocalsGiven [] = Unit {0}
-LocalsGiven (b ∷ locals) = (is_null b.1 ≡ false) × LocalsGiven locals
+LocalsGiven locals = (name : Name) → is_plain (get locals name) ≡ true
 
-if_given : (b : Bool) (v w : Value) → is_null v ≡ false → is_null w ≡ false → is_null (if b then v else w) ≡ false
+if_given : (b : Bool) (v w : Value) → is_plain v ≡ true → is_plain w ≡ true → is_plain (if b then v else w) ≡ true
 if_given true v w h g = h
 if_given false v w h g = g
 
-get_given : (locals : Locals) (name : Name) → LocalsGiven locals → is_null (get locals name) ≡ false
-get_given [] name h = refl
-get_given (b ∷ locals) name h = if_given (same_name b.0 name) b.1 (get locals name) h.0 (get_given locals name h.1)
+pub more_given : (x : Name) (v : Value) (locals : Locals) → is_plain v ≡ true → LocalsGiven locals → LocalsGiven ((x, v) ∷ locals)
+more_given x v locals h g name = if_given (same_name x name) v (get locals name) h (g name)
+
+pub none_given : LocalsGiven []
+none_given name = refl
 
 -- ---- expressions make no step and give a value
+
+-- what an operator gives
+abbrev operates : Operator → Value → Value → Value
+operates operator v w = result (operated (operation operator) Int Int (integer_in v) (integer_in w))
+  where
+    result : Option Const → Value
+    result None = Null
+    result (Some c) = valued c
+
+operates_is : (operator : Operator) (v w : Value) (s : State) → arithmetic (operation operator) Int Int v w s ≡ Gives (operates operator v w) s
+operates_is Plus v w s = refl
+operates_is Minus v w s = refl
+operates_is Times v w s = refl
+
+operates_plain : (operator : Operator) (v w : Value) → is_plain (operates operator v w) ≡ true
+operates_plain Plus v w = refl
+operates_plain Minus v w = refl
+operates_plain Times v w = refl
 
 abbrev value_by : Locals → JExpr-F Value → Value
 value_by locals (JExpr-F.Local name) = get locals name
 value_by locals (JExpr-F.Number n) = Integer Int (pos n)
 value_by locals (JExpr-F.Paren v) = v
-value_by locals (JExpr-F.Binary v operator w) = Integer Int (narrowed Int (operated operator (integer_in v) (integer_in w)))
+value_by locals (JExpr-F.Binary v operator w) = operates operator v w
 
-value : Locals → JExpr → Value
+pub value : Locals → JExpr → Value
 value locals = fold-JExpr Value (value_by locals)
 
 value_at : (locals : Locals) (x : JExpr-F JExpr) → value locals (roll-JExpr x) ≡ value_by locals (map-JExpr JExpr Value (value locals) x)
 unfolding value
 value_at locals x = fold-roll-JExpr Value (value_by locals) x
 
-value_given : (locals : Locals) → LocalsGiven locals → (e : JExpr) → is_null (value locals e) ≡ false
-value_given locals h = java_induct (λ e. is_null (value locals e) ≡ false) (record {
-  local = λ name. rw (value_at locals (JExpr-F.Local name)) (get_given locals name h);
+pub value_given : (locals : Locals) → LocalsGiven locals → (e : JExpr) → is_plain (value locals e) ≡ true
+value_given locals h = java_induct (λ e. is_plain (value locals e) ≡ true) (record {
+  local = λ name. rw (value_at locals (JExpr-F.Local name)) (h name);
   number = λ n. rw (value_at locals (JExpr-F.Number n)) refl;
   paren = λ e given. rw (value_at locals (JExpr-F.Paren e)) given;
-  binary = λ a operator b left right. rw (value_at locals (JExpr-F.Binary a operator b)) refl;
+  binary = λ a operator b left right. rw (value_at locals (JExpr-F.Binary a operator b)) (operates_plain operator (value locals a) (value locals b));
 })
 
 java_expr_is : (p : Place) (e : JExpr) (s : State) → java_expr p e s ≡ Gives (value s.locals e) s
@@ -66,7 +113,7 @@ java_expr_is p = java_induct (λ e. (s : State) → java_expr p e s ≡ Gives (v
   local = λ name s. rw (java_at p (JExpr-F.Local name), value_at s.locals (JExpr-F.Local name)) refl;
   number = λ n s. rw (java_at p (JExpr-F.Number n), value_at s.locals (JExpr-F.Number n)) refl;
   paren = λ e is s. rw (java_at p (JExpr-F.Paren e), value_at s.locals (JExpr-F.Paren e)) (is s);
-  binary = λ a operator b left right s. rw (java_at p (JExpr-F.Binary a operator b), value_at s.locals (JExpr-F.Binary a operator b), left s, right s) refl;
+  binary = λ a operator b left right s. rw (java_at p (JExpr-F.Binary a operator b), value_at s.locals (JExpr-F.Binary a operator b), left s, right s) (operates_is operator (value s.locals a) (value s.locals b) s);
 })
 
 -- what isn't null is no Torn, whatever the type
@@ -84,16 +131,19 @@ pub operator_is_int : (type : Option KType) → operator_kind type ≡ Int
 operator_is_int None = refl
 operator_is_int (Some type) = refl
 
-kotlin_expr_is : (p : Place) (static : Static) (e : JExpr) (s : State) → LocalsGiven s.locals → kotlin_expr p static (expression_of e) s ≡ Gives (value s.locals e) s
-kotlin_expr_is p static = java_induct (λ e. (s : State) → LocalsGiven s.locals → kotlin_expr p static (expression_of e) s ≡ Gives (value s.locals e) s) (record {
-  local = λ name s h.
-      rw (convert_at (JExpr-F.Local name), kotlin_at p static (KExpr-F.Local name), value_at s.locals (JExpr-F.Local name))
-      (used_is (declared static name) (get s.locals name) s (get_given s.locals name h));
-  number = λ n s h. rw (convert_at (JExpr-F.Number n), kotlin_at p static (KExpr-F.Number n), value_at s.locals (JExpr-F.Number n)) refl;
-  paren = λ e is s h. rw (convert_at (JExpr-F.Paren e), kotlin_at p static (KExpr-F.Paren (expression_of e)), value_at s.locals (JExpr-F.Paren e)) (is s h);
-  binary = λ a operator b left right s h.
-      rw (convert_at (JExpr-F.Binary a operator b), kotlin_at p static (KExpr-F.Binary (expression_of a) operator (expression_of b)), value_at s.locals (JExpr-F.Binary a operator b), left s h, right s h)
-      (ap (λ (kind : Kind). Gives (Integer kind (narrowed kind (operated operator (integer_in (value s.locals a)) (integer_in (value s.locals b))))) s) (operator_is_int (type_of static (ke.Binary (expression_of a) operator (expression_of b)))));
+operates_as : (kind : Kind) → kind ≡ Int → (operator : Operator) (v w : Value) (s : State) → arithmetic (operation operator) kind kind v w s ≡ Gives (operates operator v w) s
+operates_as kind is operator v w s = ap (λ (k : Kind). arithmetic (operation operator) k k v w s) is ∙ operates_is operator v w s
+
+pub kotlin_expr_is : (p : Place) (e : JExpr) (static : Static) (s : State) → LocalsGiven s.locals → kotlin_expr (expression_of e) static p s ≡ Gives (value s.locals e) s
+kotlin_expr_is p = java_induct (λ e. (static : Static) (s : State) → LocalsGiven s.locals → kotlin_expr (expression_of e) static p s ≡ Gives (value s.locals e) s) (record {
+  local = λ name static s h.
+      rw (convert_at (JExpr-F.Local name), kotlin_at (KExpr-F.Local name), value_at s.locals (JExpr-F.Local name))
+      (used_is (declared static name) (get s.locals name) s (plain_not_null _ (h name)));
+  number = λ n static s h. rw (convert_at (JExpr-F.Number n), kotlin_at (KExpr-F.Number n), value_at s.locals (JExpr-F.Number n)) refl;
+  paren = λ e is static s h. rw (convert_at (JExpr-F.Paren e), kotlin_at (KExpr-F.Paren (expression_of e)), value_at s.locals (JExpr-F.Paren e)) (is static s h);
+  binary = λ a operator b left right static s h.
+      rw (convert_at (JExpr-F.Binary a operator b), kotlin_at (KExpr-F.Binary (expression_of a) operator (expression_of b)), value_at s.locals (JExpr-F.Binary a operator b), left static s h, right (past (expression_of a) static) s h)
+      (operates_as _ (operator_is_int (type_of (ke.Binary (expression_of a) operator (expression_of b)) static)) operator (value s.locals a) (value s.locals b) s);
 })
 
 -- ---- statements
@@ -126,41 +176,121 @@ asked_keeps : (p : Step) (s : State) (xs : List Answer) → LocalsGiven s.locals
 asked_keeps p s [] h = tt
 asked_keeps p s (a ∷ xs) h = received_keeps a (record s { answers = xs }) h
 
-print_line_keeps : (v : Value) (s : State) → LocalsGiven s.locals → OnGives (print_line v s) Given'
-print_line_keeps v s h = asked_keeps _ s s.answers h
+-- the text of a plain value is printed
+unfoldable pub prints : Value → Meaning (Unit {0})
+prints v = ask_done (PrintStep (text_of v ++ 10 ∷ []))
 
-pub text_same : (p q : Place) (static : Static) (body : List JStmt) (s : State) → LocalsGiven s.locals →
-    kotlin_stmts p static (map statement_of body) s ≡ sequence (map (java_stmt q) body) s
-text_same p q static [] s h = refl
-text_same p q static (Local name e ∷ more) s h =
-    rw (kotlin_expr_is p static e s h, java_expr_is q e s)
-    (text_same p q (extended static (statement_of (Local name e))) more (record s { locals = (name, value s.locals e) ∷ s.locals }) (value_given s.locals h e, h))
-text_same p q static (Print e ∷ more) s h =
-    rw (kotlin_expr_is p static e s h, java_expr_is q e s)
-    (then_same Given' (print_line (value s.locals e) s) (λ a. kotlin_stmts p static (map statement_of more)) (λ a. sequence (map (java_stmt q) more)) (print_line_keeps (value s.locals e) s h)
-    (λ a t given. text_same p q static more t given))
+pub print_line_is : (p : Place) (v : Value) (s : State) → is_plain v ≡ true → print_line p v s ≡ prints v s
+unfolding prints
+print_line_is p Null s h = cc
+print_line_is p (Object class k captured) s h = cc
+print_line_is p (Integer kind z) s h = refl
+print_line_is p (Boolean b) s h = refl
+print_line_is p (Units units) s h = refl
+print_line_is p (Class name) s h = refl
+print_line_is p (Companion name) s h = refl
+print_line_is p (Array elements length k) s h = refl
+print_line_is p (Lambda site k captured) s h = refl
 
--- ---- bodies and threads
+prints_keeps : (v : Value) (s : State) → LocalsGiven s.locals → OnGives (prints v s) Given'
+unfolding prints
+prints_keeps v s h = asked_keeps _ s s.answers h
+
+-- the text of a value at two places, before what does the same
+printed_same : (p q : Place) (v : Value) (f g : Meaning (Unit {0})) (s : State) → is_plain v ≡ true → LocalsGiven s.locals →
+    ((t : State) → LocalsGiven t.locals → f t ≡ g t) → then_do (print_line p v s) (λ a. f) ≡ then_do (print_line q v s) (λ a. g)
+printed_same p q v f g s plain h same =
+    ap (λ (o : Outcome (Unit {0})). then_do o (λ a. f)) (print_line_is p v s plain)
+    ∙ then_same Given' (prints v s) (λ a. f) (λ a. g) (prints_keeps v s h) (λ a t given. same t given)
+    ∙ ap (λ (o : Outcome (Unit {0})). then_do o (λ a. g)) (sym (print_line_is q v s plain))
+
+pub text_same : (p q : Place) (body : List JStmt) (static : Static) (s : State) → LocalsGiven s.locals →
+    kotlin_stmts (map statement_of body) static p s ≡ sequence (map (java_stmt q) body) s
+text_same p q [] static s h = refl
+text_same p q (Local name e ∷ more) static s h =
+    rw (kotlin_expr_is p e static s h, java_expr_is q e s)
+    (text_same p q more (extended static (statement_of (Local name e))) (record s { locals = (name, value s.locals e) ∷ s.locals }) (more_given name (value s.locals e) s.locals (value_given s.locals h e) h))
+text_same p q (Print e ∷ more) static s h =
+    rw (kotlin_expr_is p e static s h, java_expr_is q e s)
+    (printed_same p q (value s.locals e) (kotlin_stmts (map statement_of more) static p) (sequence (map (java_stmt q) more)) s (value_given s.locals h e) h
+    (λ t given. text_same p q more static t given))
+
+-- ---- the steps of a text start no thread
+
+abbrev pub is_calm : Step → Bool
+is_calm (StartStep v) = false
+is_calm _ = true
+
+abbrev pub CalmOutcome : {A : Type 0} → Outcome A → Type 0
+CalmOutcome (Asks p) = is_calm p ≡ true
+CalmOutcome Busy = Unit {0}
+CalmOutcome (Gives a s) = Unit {0}
+CalmOutcome (Jumps j s) = Unit {0}
+
+then_calm : {A B : Type 0} (P : State → Type 0) (o : Outcome A) (f : A → Meaning B) → CalmOutcome o → OnGives o P → ((a : A) (s : State) → P s → CalmOutcome (f a s)) → CalmOutcome (then_do o f)
+then_calm P (Asks p) f h keeps g = h
+then_calm P Busy f h keeps g = tt
+then_calm P (Gives a s) f h keeps g = g a s keeps
+then_calm P (Jumps j s) f h keeps g = tt
+
+received_calm : (a : Answer) (s : State) → CalmOutcome (then_do (received a s) (λ v. pure (tt {0})))
+received_calm (Given v) s = tt
+received_calm (Raised v) s = tt
+received_calm Ready s = tt
+received_calm Run s = tt
+received_calm Mine s = tt
+received_calm Failed s = tt
+received_calm Done s = tt
+
+asked_calm : (p : Step) (s : State) (xs : List Answer) → is_calm p ≡ true → CalmOutcome (then_do (then_do (ask_from p s xs) received) (λ v. pure (tt {0})))
+asked_calm p s [] h = h
+asked_calm p s (a ∷ xs) h = received_calm a (record s { answers = xs })
+
+prints_calm : (v : Value) (s : State) → CalmOutcome (prints v s)
+unfolding prints
+prints_calm v s = asked_calm _ s s.answers refl
+
+printed_calm : (q : Place) (v : Value) (g : Meaning (Unit {0})) (s : State) → is_plain v ≡ true → LocalsGiven s.locals →
+    ((t : State) → LocalsGiven t.locals → CalmOutcome (g t)) → CalmOutcome (then_do (print_line q v s) (λ a. g))
+printed_calm q v g s plain h calm =
+    subst (λ (o : Outcome (Unit {0})). CalmOutcome (then_do o (λ a. g))) (sym (print_line_is q v s plain)) (then_calm Given' (prints v s) (λ a. g) (prints_calm v s) (prints_keeps v s h) (λ a t given. calm t given))
+
+text_calm : (q : Place) (body : List JStmt) (s : State) → LocalsGiven s.locals → CalmOutcome (sequence (map (java_stmt q) body) s)
+text_calm q [] s h = tt
+text_calm q (Local name e ∷ more) s h = rw (java_expr_is q e s) (text_calm q more (record s { locals = (name, value s.locals e) ∷ s.locals }) (more_given name (value s.locals e) s.locals (value_given s.locals h e) h))
+text_calm q (Print e ∷ more) s h = rw (java_expr_is q e s) (printed_calm q (value s.locals e) (sequence (map (java_stmt q) more)) s (value_given s.locals h e) h (λ t given. text_calm q more t given))
+
+-- ---- bodies
 
 if_same : {A : Type 0} (b : Bool) (k k' j j' : Meaning A) (s : State) → k s ≡ j s → k' s ≡ j' s → (if b then k else k') s ≡ (if b then j else j') s
 if_same true k k' j j' s h g = h
 if_same false k k' j j' s h g = g
 
--- the text with the argument of `main` in its place
-entered_same : (p q : Place) (parameter : Name) (body : List JStmt) (vs : List Value) → AllGiven vs → (s : State) → LocalsGiven s.locals →
-    then_do (assign_all (parameter ∷ []) vs s) (λ a. kotlin_stmts p (main_static parameter) (map statement_of body)) ≡ then_do (assign_all (parameter ∷ []) vs s) (λ a. sequence (map (java_stmt q) body))
-entered_same p q parameter body [] given s h = text_same p q (main_static parameter) body s h
-entered_same p q parameter body (v ∷ vs) given s h = text_same p q (main_static parameter) body (record s { locals = (parameter, v) ∷ s.locals }) (given.0, h)
+module _ (class : Name) (parameter : Name) (body : List JStmt) (p q : Place) where
+  abbrev kotlin_text : Meaning (Unit {0})
+  kotlin_text = kotlin_stmts (map statement_of body) (main_static class parameter) p
 
-paid_same : (p q : Place) (parameter : Name) (body : List JStmt) (vs : List Value) → AllGiven vs → (s : State) → LocalsGiven s.locals → (n : ℕ) →
-    then_do (pay_from s n) (λ a. assign_all (parameter ∷ []) vs >> kotlin_stmts p (main_static parameter) (map statement_of body)) ≡ then_do (pay_from s n) (λ a. assign_all (parameter ∷ []) vs >> sequence (map (java_stmt q) body))
-paid_same p q parameter body vs given s h zero = refl
-paid_same p q parameter body vs given s h (suc n) = entered_same p q parameter body vs given (record s { n = n }) h
+  abbrev java_text : Meaning (Unit {0})
+  java_text = sequence (map (java_stmt q) body)
 
--- a start whose arguments aren't null
-abbrev pub IsGiven : Start → Type 0
-IsGiven (Enters site vs) = AllGiven vs
-IsGiven (Runs v) = Unit {0}
+  -- the text with the argument of `main` in its place
+  entered_same : (vs : List Value) → AllGiven vs → (s : State) → LocalsGiven s.locals →
+      then_do (assign_all (parameter ∷ []) vs s) (λ a. kotlin_text) ≡ then_do (assign_all (parameter ∷ []) vs s) (λ a. java_text)
+  entered_same [] given s h = text_same p q body (main_static class parameter) s h
+  entered_same (v ∷ vs) given s h = text_same p q body (main_static class parameter) (record s { locals = (parameter, v) ∷ s.locals }) (more_given parameter v s.locals given.0 h)
+
+  paid_same : (vs : List Value) → AllGiven vs → (s : State) → LocalsGiven s.locals → (n : ℕ) →
+      then_do (pay_from s n) (λ a. assign_all (parameter ∷ []) vs >> kotlin_text) ≡ then_do (pay_from s n) (λ a. assign_all (parameter ∷ []) vs >> java_text)
+  paid_same vs given s h zero = refl
+  paid_same vs given s h (suc n) = entered_same vs given (record s { n = n }) h
+
+  entered_calm : (vs : List Value) → AllGiven vs → (s : State) → LocalsGiven s.locals → CalmOutcome (then_do (assign_all (parameter ∷ []) vs s) (λ a. java_text))
+  entered_calm [] given s h = text_calm q body s h
+  entered_calm (v ∷ vs) given s h = text_calm q body (record s { locals = (parameter, v) ∷ s.locals }) (more_given parameter v s.locals given.0 h)
+
+  paid_calm : (vs : List Value) → AllGiven vs → (s : State) → LocalsGiven s.locals → (n : ℕ) → CalmOutcome (then_do (pay_from s n) (λ a. assign_all (parameter ∷ []) vs >> java_text))
+  paid_calm vs given s h zero = tt
+  paid_calm vs given s h (suc n) = entered_calm vs given (record s { n = n }) h
 
 -- the method of a class before others, whatever bodies they call
 entered_first : (kotlin java : Program) (b b' : Bodies) (class : Name) (main : Option JMain) (rest rest' : List Body) (site : Site) (vs : List Value) → AllGiven vs → (s : State) → LocalsGiven s.locals →
@@ -168,13 +298,63 @@ entered_first : (kotlin java : Program) (b b' : Bodies) (class : Name) (main : O
     enter kotlin b (cons_option (option_map (kotlin_main class) (option_map main_of main)) rest) site vs s ≡ enter java b' (cons_option (option_map (java_main class) main) rest') site vs s
 entered_first kotlin java b b' class None rest rest' site vs given s h same = same
 entered_first kotlin java b b' class (Some main) rest rest' site vs given s h same =
-    if_same (same_site (main_site class) site) _ _ _ _ s (paid_same (place kotlin b class) (place java b' class) main.parameter main.body vs given s h s.n) same
+    if_same (same_site (main_site class) site) _ _ _ _ s (paid_same class main.parameter main.body (place kotlin b (Simple class)) (place java b' (Simple class)) vs given s h s.n) same
 
 -- the same methods of a list of classes
 entered_among : (kotlin java : Program) (b b' : Bodies) (list : List JClass) (site : Site) (vs : List Value) → AllGiven vs → (s : State) → LocalsGiven s.locals →
     enter kotlin b (filter_map kotlin_method (classes_of list)) site vs s ≡ enter java b' (filter_map java_method list) site vs s
 entered_among kotlin java b b' [] site vs given s h = refl
 entered_among kotlin java b b' (class ∷ list) site vs given s h = entered_first kotlin java b b' class.name class.main _ _ site vs given s h (entered_among kotlin java b b' list site vs given s h)
+
+-- ---- a body that is there
+
+abbrev pub stands : List Body → Site → Bool
+stands [] site = false
+stands (body ∷ bodies) site = if same_site body.site site then true else stands bodies site
+
+-- the text of the first, or that of the rest where it stands there
+if_calm : {A : Type 0} (b c : Bool) (m k : Meaning A) (s : State) → (if b then true else c) ≡ true → CalmOutcome (m s) → (c ≡ true → CalmOutcome (k s)) → CalmOutcome ((if b then m else k) s)
+if_calm true c m k s is h g = h
+if_calm false c m k s is h g = g is
+
+first_calm : (java : Program) (b : Bodies) (class : Name) (main : Option JMain) (rest : List Body) (site : Site) (vs : List Value) → AllGiven vs → (s : State) → LocalsGiven s.locals →
+    stands (cons_option (option_map (java_main class) main) rest) site ≡ true → (stands rest site ≡ true → CalmOutcome (enter java b rest site vs s)) →
+    CalmOutcome (enter java b (cons_option (option_map (java_main class) main) rest) site vs s)
+first_calm java b class None rest site vs given s h there calm = calm there
+first_calm java b class (Some main) rest site vs given s h there calm =
+    if_calm (same_site (main_site class) site) (stands rest site) _ _ s there (paid_calm class main.parameter main.body (place java b (Simple class)) (place java b (Simple class)) vs given s h s.n) calm
+
+calm_among : (java : Program) (b : Bodies) (list : List JClass) (site : Site) (vs : List Value) → AllGiven vs → (s : State) → LocalsGiven s.locals →
+    stands (filter_map java_method list) site ≡ true → CalmOutcome (enter java b (filter_map java_method list) site vs s)
+calm_among java b [] site vs given s h there = cc
+calm_among java b (class ∷ list) site vs given s h there = first_calm java b class.name class.main _ site vs given s h there (calm_among java b list site vs given s h)
+
+-- ---- threads
+
+returned_calm : (s : State) (o : Outcome (Unit {0})) → CalmOutcome o → CalmOutcome (returned s.locals o)
+returned_calm s (Asks p) h = h
+returned_calm s Busy h = tt
+returned_calm s (Gives a t) h = tt
+returned_calm s (Jumps (Exits e) t) h = tt
+returned_calm s (Jumps (Returns v) t) h = tt
+returned_calm s (Jumps (Throws v) t) h = tt
+
+abbrev pub CalmTurn : Turn → Type 0
+CalmTurn (Next p) = is_calm p ≡ true
+CalmTurn IsBusy = Unit {0}
+CalmTurn Ended = Unit {0}
+
+at_end_calm : (xs : List Answer) (p : Step) → is_calm p ≡ true → CalmTurn (at_end xs p)
+at_end_calm [] p h = h
+at_end_calm (a ∷ xs) p h = tt
+
+turn_calm : (o : Outcome Value) → CalmOutcome o → CalmTurn (turn o)
+turn_calm (Asks p) h = h
+turn_calm Busy h = tt
+turn_calm (Gives v s) h = at_end_calm s.answers _ refl
+turn_calm (Jumps (Exits e) s) h = at_end_calm s.answers _ refl
+turn_calm (Jumps (Returns v) s) h = at_end_calm s.answers _ refl
+turn_calm (Jumps (Throws v) s) h = at_end_calm s.answers _ refl
 
 module _ (classes : List JClass) where
   abbrev kotlin : Program
@@ -183,19 +363,29 @@ module _ (classes : List JClass) where
   abbrev java : Program
   java = java_program classes
 
+  -- a start at a body that is there, with plain arguments
+  abbrev pub IsGiven : Start → Type 0
+  IsGiven (Enters site vs) = (stands (filter_map java_method classes) site ≡ true) × AllGiven vs
+  IsGiven (Runs v) = ⊥
+
   method_same : (d : ℕ) (site : Site) (vs : List Value) → AllGiven vs → (s : State) → LocalsGiven s.locals → (bodies kotlin d).method site vs s ≡ (bodies java d).method site vs s
   method_same zero site vs given s h = refl
   method_same (suc d) site vs given s h = entered_among kotlin java (bodies kotlin d) (bodies java d) classes site vs given s h
 
-  lambda_same : (d : ℕ) (site : Site) (captured vs : List Value) → (bodies kotlin d).lambda site captured vs ≡ (bodies java d).lambda site captured vs
-  lambda_same zero site captured vs = refl
-  lambda_same (suc d) site captured vs = refl
+  method_calm : (d : ℕ) (site : Site) (vs : List Value) → AllGiven vs → stands (filter_map java_method classes) site ≡ true → (s : State) → LocalsGiven s.locals → CalmOutcome ((bodies java d).method site vs s)
+  method_calm zero site vs given there s h = tt
+  method_calm (suc d) site vs given there s h = calm_among java (bodies java d) classes site vs given s h there
 
   from_same : (d : ℕ) (start : Start) → IsGiven start → (s : State) → thread_from kotlin (bodies kotlin d) start s ≡ thread_from java (bodies java d) start s
-  from_same d (Enters site vs) given s = ap (returned s.locals) (method_same d site vs given (record s { locals = [] }) tt)
-  from_same d (Runs (Lambda site k captured)) given s = ap (λ (m : Meaning (Unit {0})). returned s.locals (m (record s { locals = [] }))) (lambda_same d site (captured_list captured) [])
-  from_same d (Runs Null) given s = refl
-  from_same d (Runs object) given s = ap (returned s.locals) (method_same d run_site (object ∷ []) (refl, tt) (record s { locals = [] }) tt)
+  from_same d (Enters site vs) given s = ap (returned s.locals) (method_same d site vs given.1 (record s { locals = [] }) none_given)
+  from_same d (Runs object) given s = absurd given
+
+  from_calm : (d : ℕ) (start : Start) → IsGiven start → (s : State) → CalmOutcome (thread_from java (bodies java d) start s)
+  from_calm d (Enters site vs) given s = returned_calm s _ (method_calm d site vs given.1 given.0 (record s { locals = [] }) none_given)
+  from_calm d (Runs object) given s = absurd given
 
   pub thread_same : (start : Start) → IsGiven start → (answers : List Answer) (n : ℕ) → KotlinThread (classes_of classes) start answers n ≡ JavaThread classes start answers n
   thread_same start given answers n = ap turn (from_same (n + length answers) start given (record { locals = []; answers = answers; n = n }))
+
+  pub thread_calm : (start : Start) → IsGiven start → (answers : List Answer) (n : ℕ) → CalmTurn (JavaThread classes start answers n)
+  thread_calm start given answers n = turn_calm _ (from_calm (n + length answers) start given (record { locals = []; answers = answers; n = n }))

@@ -2,9 +2,9 @@
 use Rattle.std.proofs.Common.{◌≡◌, ℕ, ℤ, pos, negsuc, Bool, true, false, ◌&&◌, ◌==◌, [], ◌∷◌, refl, ap, ◌∙◌, subst}
 use Rattle.std.proofs.lemmas.Bool.{eq-eqb, eqb-true}
 use Rattle.meanings.specs.Laws.{SameIsEqual}
-use Rattle.meanings.specs.Values.{Name, same_name, same_flag, Site, same_site, Kind, Byte, Short, Char, Int, Long, kind_number, same_integer, Elements, Integers, Booleans, Objects, Arrays, same_elements, Value, Null, Integer, Boolean, Units, Class, Companion, Object, Array, Lambda, Captured, NoMore, Capture, same_value, same_captured}
+use Rattle.meanings.specs.Values.{Name, same_name, same_flag, ClassName, Simple, Anonymous, same_class, Field, same_field, Site, same_site, Kind, Byte, Short, Char, Int, Long, kind_number, same_integer, Elements, Integers, Booleans, Objects, Arrays, same_elements, Value, Null, Integer, Boolean, Units, Class, Companion, Object, Array, Lambda, Captured, NoMore, Capture, same_value, same_captured}
 
-both : (a b : Bool) → (a && b) ≡ true → (a ≡ true) × (b ≡ true)
+pub both : (a b : Bool) → (a && b) ≡ true → (a ≡ true) × (b ≡ true)
 both true true e = (refl, refl)
 both true false e = cc
 both false b e = cc
@@ -55,20 +55,47 @@ same_integer_self : (x : ℤ) → same_integer x x ≡ true
 same_integer_self (pos m) = eq-eqb m m refl
 same_integer_self (negsuc m) = eq-eqb m m refl
 
-abbrev site : Name → Bool → ℕ → Site
+pub same_class_true : (c d : ClassName) → same_class c d ≡ true → c ≡ d
+same_class_true (Simple c) (Simple d) e = ap Simple (same_name_true c d e)
+same_class_true (Anonymous c s k) (Anonymous d t l) e =
+    let h : ((same_class c d && same_flag s t) ≡ true) × ((k == l) ≡ true) = both _ _ e in
+    let g : (same_class c d ≡ true) × (same_flag s t ≡ true) = both _ _ h.0 in
+    let around : c ≡ d = same_class_true c d g.0 in
+    let part : s ≡ t = same_flag_true s t g.1 in
+    let number : k ≡ l = eqb-true k l h.1 in cc
+same_class_true _ _ e = cc
+
+pub same_class_self : (c : ClassName) → same_class c c ≡ true
+same_class_self (Simple c) = same_name_self c
+same_class_self (Anonymous c s k) = and_true _ _ (and_true _ _ (same_class_self c) (same_flag_self s)) (eq-eqb k k refl)
+
+abbrev site : ClassName → Bool → ℕ → Site
 site class is_static ordinal = record { class = class; is_static = is_static; ordinal = ordinal }
 
 same_site_true : (a b : Site) → same_site a b ≡ true → a ≡ b
 same_site_true a b e =
-    let h : ((same_name a.class b.class && same_flag a.is_static b.is_static) ≡ true) × ((a.ordinal == b.ordinal) ≡ true) = both _ _ e in
-    let g : (same_name a.class b.class ≡ true) × (same_flag a.is_static b.is_static ≡ true) = both _ _ h.0 in
-    let class : a.class ≡ b.class = same_name_true a.class b.class g.0 in
+    let h : ((same_class a.class b.class && same_flag a.is_static b.is_static) ≡ true) × ((a.ordinal == b.ordinal) ≡ true) = both _ _ e in
+    let g : (same_class a.class b.class ≡ true) × (same_flag a.is_static b.is_static ≡ true) = both _ _ h.0 in
+    let class : a.class ≡ b.class = same_class_true a.class b.class g.0 in
     let flag : a.is_static ≡ b.is_static = same_flag_true a.is_static b.is_static g.1 in
     let ordinal : a.ordinal ≡ b.ordinal = eqb-true a.ordinal b.ordinal h.1 in
-    ap (λ (x : Name). site x a.is_static a.ordinal) class ∙ ap (λ (x : Bool). site b.class x a.ordinal) flag ∙ ap (λ (x : ℕ). site b.class b.is_static x) ordinal
+    ap (λ (x : ClassName). site x a.is_static a.ordinal) class ∙ ap (λ (x : Bool). site b.class x a.ordinal) flag ∙ ap (λ (x : ℕ). site b.class b.is_static x) ordinal
 
-same_site_self : (a : Site) → same_site a a ≡ true
-same_site_self a = and_true _ _ (and_true _ _ (same_name_self a.class) (same_flag_self a.is_static)) (eq-eqb a.ordinal a.ordinal refl)
+pub same_site_self : (a : Site) → same_site a a ≡ true
+same_site_self a = and_true _ _ (and_true _ _ (same_class_self a.class) (same_flag_self a.is_static)) (eq-eqb a.ordinal a.ordinal refl)
+
+abbrev field : ClassName → Name → Field
+field class name = record { class = class; name = name }
+
+pub same_field_true : (f g : Field) → same_field f g ≡ true → f ≡ g
+same_field_true f g e =
+    let h : (same_class f.class g.class ≡ true) × (same_name f.name g.name ≡ true) = both _ _ e in
+    let class : f.class ≡ g.class = same_class_true f.class g.class h.0 in
+    let name : f.name ≡ g.name = same_name_true f.name g.name h.1 in
+    ap (λ (x : ClassName). field x f.name) class ∙ ap (λ (x : Name). field g.class x) name
+
+pub same_field_self : (f : Field) → same_field f f ≡ true
+same_field_self f = and_true _ _ (same_class_self f.class) (same_name_self f.name)
 
 same_elements_true : (e f : Elements) → same_elements e f ≡ true → e ≡ f
 same_elements_true (Integers k) (Integers l) h = ap Integers (same_kind_true k l h)
@@ -94,10 +121,12 @@ mutual
   same_value_true (Units a) (Units b) e = ap Units (same_name_true a b e)
   same_value_true (Class c) (Class d) e = ap Class (same_name_true c d e)
   same_value_true (Companion c) (Companion d) e = ap Companion (same_name_true c d e)
-  same_value_true (Object c m) (Object d n) e =
-      let h : (same_name c d ≡ true) × ((m == n) ≡ true) = both _ _ e in
-      let names : c ≡ d = same_name_true c d h.0 in
-      let numbers : m ≡ n = eqb-true m n h.1 in cc
+  same_value_true (Object c m xs) (Object d n ys) e =
+      let h : ((same_class c d && (m == n)) ≡ true) × (same_captured xs ys ≡ true) = both _ _ e in
+      let g : (same_class c d ≡ true) × ((m == n) ≡ true) = both _ _ h.0 in
+      let classes : c ≡ d = same_class_true c d g.0 in
+      let numbers : m ≡ n = eqb-true m n g.1 in
+      let captured : xs ≡ ys = same_captured_true xs ys h.1 in cc
   same_value_true (Array a k m) (Array b l n) e =
       let h : ((same_elements a b && (k == l)) ≡ true) × ((m == n) ≡ true) = both _ _ e in
       let g : (same_elements a b ≡ true) × ((k == l) ≡ true) = both _ _ h.0 in
@@ -128,7 +157,7 @@ mutual
   same_value_self (Units a) = same_name_self a
   same_value_self (Class c) = same_name_self c
   same_value_self (Companion c) = same_name_self c
-  same_value_self (Object c m) = and_true _ _ (same_name_self c) (eq-eqb m m refl)
+  same_value_self (Object c m xs) = and_true _ _ (and_true _ _ (same_class_self c) (eq-eqb m m refl)) (same_captured_self xs)
   same_value_self (Array a k m) = and_true _ _ (and_true _ _ (same_elements_self a) (eq-eqb k k refl)) (eq-eqb m m refl)
   same_value_self (Lambda a m xs) = and_true _ _ (and_true _ _ (same_site_self a) (eq-eqb m m refl)) (same_captured_self xs)
 

@@ -1,7 +1,7 @@
 -- Laws of whole runs.
-use Rattle.std.proofs.Common.{◌≡◌, ℕ, suc, true, List, [], ◌∷◌, ◌++◌, Option, Some, None, slice_get, refl, sym, ap, ◌∙◌, append_assoc}
+use Rattle.std.proofs.Common.{◌≡◌, ℕ, suc, List, [], ◌∷◌, ◌++◌, Option, Some, None, slice_get, refl, sym, ap, ◌∙◌, append_assoc}
 use Rattle.std.proofs.lemmas.List.{append-nil}
-use Rattle.meanings.specs.Values.{Name, Step}
+use Rattle.meanings.specs.Values.{ClassName, Step}
 use Rattle.meanings.specs.Program.{Turn, Next, IsBusy, Ended}
 use Rattle.meanings.specs.World.{World, Reply, IsReady, state_of, answer}
 use Rattle.meanings.specs.Runs.{Item, Stepped, Blocked, WasBusy, HadEnded, Missing, Thread, Behavior, After, replied, turned, turn_of, run}
@@ -9,13 +9,13 @@ use Rattle.meanings.specs.Laws.{EqualRuns, MatchingRuns, printed, Answered, all_
 use Rattle.meanings.proofs.RunLaws.{run_same, run_matching}
 use Rattle.meanings.proofs.Answers.{answer_says}
 
-pub equal_runs : EqualRuns
-equal_runs next next' n holds keeps same w ts h schedule =
-    run_same next next' n (λ w ts. holds w ts ≡ true) same.same (record { kept = keeps.kept }) w ts h schedule
+module _ (Holds : World → List Thread → Type 0) where
+  pub equal_runs : EqualRuns Holds
+  equal_runs next next' n keeps same w ts h schedule = run_same next next' n Holds same.same keeps w ts h schedule
 
-pub matching_runs : MatchingRuns
-matching_runs next next' n holds m =
-    run_matching next next' n (λ w w' ts. holds w w' ts ≡ true) (record { item = m.item; threads = m.threads; kept = m.kept })
+module _ (Relates : World → World → List Thread → Type 0) where
+  pub matching_runs : MatchingRuns Relates
+  matching_runs next next' n m = run_matching next next' n Relates m
 
 -- ---- the output grows
 
@@ -35,7 +35,7 @@ all_printed_is (Missing i) items = refl
 
 record TurnGrows (w : World) (after : After) : Type 0 where
   output : after.world.output ≡ w.output ++ item_printed after.item
-  ready : (class : Name) → state_of w.classes class ≡ IsReady → state_of after.world.classes class ≡ IsReady
+  ready : (class : ClassName) → state_of w.classes class ≡ IsReady → state_of after.world.classes class ≡ IsReady
 
 replied_grows : (w : World) (ts : List Thread) (i : ℕ) (t : Thread) (p : Step) (r : Reply) → answer w i p ≡ r → TurnGrows w (replied w ts i t p r)
 replied_grows w ts i t p None e = record { output = sym (append-nil w.output); ready = λ class h. h }

@@ -13,19 +13,22 @@ use Rattle.meanings.specs.declared.java.JStmt.{JStmt}
 use Rattle.meanings.specs.declared.java.JStmt.TheVariants as s
 use Rattle.meanings.specs.declared.java.JMain.{JMain}
 use Rattle.meanings.specs.declared.java.JFile.{JFile}
+use Rattle.j2k_base.specs.declared.constants.Op2.TheVariants.{Add, Sub, Mul}
+use Rattle.meanings.specs.declared.kotlin.KExpr.{KExpr}
 use Rattle.meanings.specs.declared.kotlin.KExpr.TheOpen.{KExpr-F}
 use Rattle.meanings.specs.declared.kotlin.KExpr.TheVariants as ke
 use Rattle.meanings.specs.Convert.{expression_of, statement_of, file_of, files_of}
 use Rattle.meanings.specs.KText.{operator_text, expression_text, KText}
-use Rattle.meanings.specs.Values.{Name, Kind, Value, Null, Integer, Int, Print, End, Result, Done}
+use Rattle.meanings.specs.Operators.{operation}
+use Rattle.meanings.specs.Values.{Name, Kind, Value, Null, Integer, Units, Int, Print, End, Result, Done}
 use Rattle.meanings.specs.Outcome.{Meaning, pure, ◌>>=◌, ◌>>◌, local, assign}
 use Rattle.meanings.specs.Machine.{Place, print_line, arithmetic, binary, sequence}
 use Rattle.meanings.specs.Program.{Body, main_site}
 use Rattle.meanings.specs.Static.{Static, IntType, declared, type_of, main_static}
 use Rattle.meanings.specs.Java.{java_expr, java_stmts, java_main, classes_in, java_program}
-use Rattle.meanings.specs.Kotlin.{used, kotlin_expr, kotlin_stmts}
+use Rattle.meanings.specs.Kotlin.{used, Doing, kotlin_expr, kotlin_stmts}
 use Rattle.meanings.specs.Runs.{Item, Stepped, WasBusy, HadEnded, Missing}
-use Rattle.meanings.specs.Entries.{Entry, Input, run_of}
+use Rattle.meanings.specs.Entries.{Strings, Entry, Input, run_of}
 use Rattle.meanings.specs.SameSteps.{JavaRun, KotlinRun}
 use Rattle.meanings.proofs.Layers.{java_at, kotlin_at, convert_at, text_at}
 use Rattle.meanings.proofs.SameText.{operator_is_int}
@@ -42,28 +45,28 @@ module _ (p : Place) where
   java_paren : (e : JExpr) → java_expr p (je.Paren e) ≡ java_expr p e
   java_paren e = ap (java_expr p) (sym (je.rolls-Paren e)) ∙ java_at p (JExpr-F.Paren e)
 
-  java_binary : (a b : JExpr) (operator : Operator) → java_expr p (je.Binary a operator b) ≡ binary (arithmetic Int operator) (java_expr p a) (java_expr p b)
+  java_binary : (a b : JExpr) (operator : Operator) → java_expr p (je.Binary a operator b) ≡ binary (arithmetic (operation operator) Int Int) (java_expr p a) (java_expr p b)
   java_binary a b operator = ap (java_expr p) (sym (je.rolls-Binary a operator b)) ∙ java_at p (JExpr-F.Binary a operator b)
 
 module _ (p : Place) (static : Static) where
   -- the Kotlin of a Java expression
   abbrev does : JExpr → Meaning Value
-  does e = kotlin_expr p static (expression_of e)
+  does e = kotlin_expr (expression_of e) static p
 
   kotlin_local : (name : Name) → does (je.Local name) ≡ (local name >>= used (declared static name))
-  kotlin_local name = ap does (sym (je.rolls-Local name)) ∙ ap (kotlin_expr p static) (convert_at (JExpr-F.Local name)) ∙ kotlin_at p static (KExpr-F.Local name)
+  kotlin_local name = ap does (sym (je.rolls-Local name)) ∙ ap (λ (k : KExpr). kotlin_expr k static p) (convert_at (JExpr-F.Local name)) ∙ ap (λ (d : Doing Value). d static p) (kotlin_at (KExpr-F.Local name))
 
   kotlin_number : (n : ℕ) → does (je.Number n) ≡ pure (Integer Int (pos n))
-  kotlin_number n = ap does (sym (je.rolls-Number n)) ∙ ap (kotlin_expr p static) (convert_at (JExpr-F.Number n)) ∙ kotlin_at p static (KExpr-F.Number n)
+  kotlin_number n = ap does (sym (je.rolls-Number n)) ∙ ap (λ (k : KExpr). kotlin_expr k static p) (convert_at (JExpr-F.Number n)) ∙ ap (λ (d : Doing Value). d static p) (kotlin_at (KExpr-F.Number n))
 
   kotlin_paren : (e : JExpr) → does (je.Paren e) ≡ does e
-  kotlin_paren e = ap does (sym (je.rolls-Paren e)) ∙ ap (kotlin_expr p static) (convert_at (JExpr-F.Paren e)) ∙ kotlin_at p static (KExpr-F.Paren (expression_of e))
+  kotlin_paren e = ap does (sym (je.rolls-Paren e)) ∙ ap (λ (k : KExpr). kotlin_expr k static p) (convert_at (JExpr-F.Paren e)) ∙ ap (λ (d : Doing Value). d static p) (kotlin_at (KExpr-F.Paren (expression_of e)))
 
-  kotlin_binary : (a b : JExpr) (operator : Operator) → does (je.Binary a operator b) ≡ binary (arithmetic Int operator) (does a) (does b)
+  kotlin_binary : (a b : JExpr) (operator : Operator) → does (je.Binary a operator b) ≡ binary (arithmetic (operation operator) Int Int) (does a) (does b)
   kotlin_binary a b operator =
-      ap does (sym (je.rolls-Binary a operator b)) ∙ ap (kotlin_expr p static) (convert_at (JExpr-F.Binary a operator b))
-      ∙ kotlin_at p static (KExpr-F.Binary (expression_of a) operator (expression_of b))
-      ∙ ap (λ (kind : Kind). binary (arithmetic kind operator) (does a) (does b)) (operator_is_int (type_of static (ke.Binary (expression_of a) operator (expression_of b))))
+      ap does (sym (je.rolls-Binary a operator b)) ∙ ap (λ (k : KExpr). kotlin_expr k static p) (convert_at (JExpr-F.Binary a operator b))
+      ∙ ap (λ (d : Doing Value). d static p) (kotlin_at (KExpr-F.Binary (expression_of a) operator (expression_of b)))
+      ∙ ap (λ (kind : Kind). binary (arithmetic (operation operator) kind kind) (does a) (does b)) (operator_is_int (type_of (ke.Binary (expression_of a) operator (expression_of b)) static))
 
 -- ---- programs of one class, by what its `main` does
 
@@ -80,10 +83,10 @@ abbrev main_of : Name → Name → (Place → Meaning (Unit {0})) → Body
 main_of class parameter text = record { site = main_site class; parameters = parameter ∷ []; text = text }
 
 abbrev entry : Entry
-entry = record { class = codes "Main"; method = codes "main" }
+entry = record { class = codes "Main"; method = codes "main"; takes = Strings }
 
 abbrev input : Input
-input = record { arguments = codes "x" ∷ []; bytes = [] }
+input = record { arguments = Units (codes "x") ∷ []; bytes = [] }
 
 -- a file whose class has a `main`
 abbrev file_with : List Name → Name → Name → List JStmt → JFile
@@ -97,7 +100,7 @@ run_text schedule n text = run_of (record (java_program (classes_in (main_file [
 
 -- what is declared at the start
 abbrev static_main : Static
-static_main = main_static args
+static_main = main_static (codes "Main") args
 
 -- ---- a sum
 
@@ -113,8 +116,8 @@ java = main_file java_body
 abbrev java_does : Place → Meaning (Unit {0})
 java_does p = sequence (
     (pure (Integer Int (pos 2)) >>= assign a) ∷
-    (binary (arithmetic Int Times) (local a) (pure (Integer Int (pos 3))) >>= assign b) ∷
-    (binary (arithmetic Int Plus) (local a) (local b) >>= print_line) ∷ [])
+    (binary (arithmetic Mul Int Int) (local a) (pure (Integer Int (pos 3))) >>= assign b) ∷
+    (binary (arithmetic Add Int Int) (local a) (local b) >>= print_line p) ∷ [])
 
 java_is : (p : Place) → sequence (java_stmts p java_body) ≡ java_does p
 java_is p = rw (java_binary p (je.Local a) (je.Number 3) Times, java_binary p (je.Local a) (je.Local b) Plus, java_number p 2, java_number p 3, java_local p a, java_local p b) refl
@@ -136,7 +139,7 @@ int_local name = local name >>= used (Some IntType)
 abbrev kotlin_does : Place → Meaning (Unit {0})
 kotlin_does p =
     (pure (Integer Int (pos 2)) >>= assign a)
-    >> ((binary (arithmetic Int Times) (int_local a) (pure (Integer Int (pos 3))) >>= assign b) >> ((binary (arithmetic Int Plus) (int_local a) (int_local b) >>= print_line) >> pure tt))
+    >> ((binary (arithmetic Mul Int Int) (int_local a) (pure (Integer Int (pos 3))) >>= assign b) >> ((binary (arithmetic Add Int Int) (int_local a) (int_local b) >>= print_line p) >> pure tt))
 
 -- what is declared after `a`, and after `b`
 abbrev static_a : Static
@@ -145,7 +148,7 @@ static_a = record static_main { locals = (a, IntType) ∷ static_main.locals }
 abbrev static_b : Static
 static_b = record static_main { locals = (b, IntType) ∷ (a, IntType) ∷ static_main.locals }
 
-kotlin_is : (p : Place) → kotlin_stmts p static_main (map statement_of java_body) ≡ kotlin_does p
+kotlin_is : (p : Place) → kotlin_stmts (map statement_of java_body) static_main p ≡ kotlin_does p
 kotlin_is p =
     rw (
       kotlin_number p static_main 2,
@@ -184,10 +187,10 @@ nested = main_file nested_body
 
 -- what each does, by what the name does
 abbrev first_does : Meaning Value → Meaning Value
-first_does x = binary (arithmetic Int Minus) (binary (arithmetic Int Times) (binary (arithmetic Int Plus) x (pure (Integer Int (pos 2)))) (pure (Integer Int (pos 7)))) x
+first_does x = binary (arithmetic Sub Int Int) (binary (arithmetic Mul Int Int) (binary (arithmetic Add Int Int) x (pure (Integer Int (pos 2)))) (pure (Integer Int (pos 7)))) x
 
 abbrev second_does : Meaning Value → Meaning Value
-second_does x = binary (arithmetic Int Minus) x (binary (arithmetic Int Minus) (pure (Integer Int (pos 7))) x)
+second_does x = binary (arithmetic Sub Int Int) x (binary (arithmetic Sub Int Int) (pure (Integer Int (pos 7))) x)
 
 java_first : (p : Place) → java_expr p first ≡ first_does (local a)
 java_first p =
@@ -211,7 +214,7 @@ java_second_is p =
       java_number p 7,
     ) refl
 
-kotlin_first : (p : Place) → kotlin_expr p static_a (expression_of first) ≡ first_does (int_local a)
+kotlin_first : (p : Place) → kotlin_expr (expression_of first) static_a p ≡ first_does (int_local a)
 kotlin_first p =
     rw (
       kotlin_binary p static_a (je.Binary (je.Paren (je.Binary (je.Local a) Plus (je.Number 2))) Times (je.Number 7)) (je.Local a) Minus,
@@ -223,7 +226,7 @@ kotlin_first p =
       kotlin_number p static_a 7,
     ) refl
 
-kotlin_second : (p : Place) → kotlin_expr p static_a (expression_of second) ≡ second_does (int_local a)
+kotlin_second : (p : Place) → kotlin_expr (expression_of second) static_a p ≡ second_does (int_local a)
 kotlin_second p =
     rw (
       kotlin_binary p static_a (je.Local a) (je.Paren (je.Binary (je.Number 7) Minus (je.Local a))) Minus,
@@ -233,11 +236,11 @@ kotlin_second p =
       kotlin_number p static_a 7,
     ) refl
 
-java_nested_is : (p : Place) → sequence (java_stmts p nested_body) ≡ sequence ((pure (Integer Int (pos 2)) >>= assign a) ∷ (first_does (local a) >>= print_line) ∷ (second_does (local a) >>= print_line) ∷ [])
+java_nested_is : (p : Place) → sequence (java_stmts p nested_body) ≡ sequence ((pure (Integer Int (pos 2)) >>= assign a) ∷ (first_does (local a) >>= print_line p) ∷ (second_does (local a) >>= print_line p) ∷ [])
 java_nested_is p = rw (java_number p 2, java_first p, java_second_is p) refl
 
-kotlin_nested_is : (p : Place) → kotlin_stmts p static_main (map statement_of nested_body) ≡
-    ((pure (Integer Int (pos 2)) >>= assign a) >> ((first_does (int_local a) >>= print_line) >> ((second_does (int_local a) >>= print_line) >> pure tt)))
+kotlin_nested_is : (p : Place) → kotlin_stmts (map statement_of nested_body) static_main p ≡
+    ((pure (Integer Int (pos 2)) >>= assign a) >> ((first_does (int_local a) >>= print_line p) >> ((second_does (int_local a) >>= print_line p) >> pure tt)))
 kotlin_nested_is p = rw (kotlin_number p static_main 2, kotlin_first p, kotlin_second p) refl
 
 java_nested : JavaRun (nested ∷ []) entry input (0 ∷ 0 ∷ 0 ∷ []) 1 ≡ Stepped 0 (Print (codes "26\n")) Done ∷ Stepped 0 (Print (codes "-3\n")) Done ∷ Stepped 0 (End (Result Null)) Done ∷ []
@@ -301,9 +304,9 @@ abbrev wrapping : JFile
 wrapping = main_file wrapping_body
 
 abbrev product : ℕ → ℕ → Meaning Value
-product m n = binary (arithmetic Int Times) (pure (Integer Int (pos m))) (pure (Integer Int (pos n)))
+product m n = binary (arithmetic Mul Int Int) (pure (Integer Int (pos m))) (pure (Integer Int (pos n)))
 
-wrapping_is : (p : Place) → sequence (java_stmts p wrapping_body) ≡ sequence ((product 65536 65536 >>= print_line) ∷ (product 2147483647 2 >>= print_line) ∷ [])
+wrapping_is : (p : Place) → sequence (java_stmts p wrapping_body) ≡ sequence ((product 65536 65536 >>= print_line p) ∷ (product 2147483647 2 >>= print_line p) ∷ [])
 wrapping_is p =
     rw (java_binary p (je.Number 65536) (je.Number 65536) Times, java_binary p (je.Number 2147483647) (je.Number 2) Times, java_number p 65536, java_number p 2147483647, java_number p 2) refl
 
@@ -330,9 +333,9 @@ abbrev files : List JFile
 files = wrapping ∷ plain ∷ no_class ∷ other ∷ []
 
 abbrev entry_of : Name → Entry
-entry_of class = record { class = class; method = codes "main" }
+entry_of class = record { class = class; method = codes "main"; takes = Strings }
 
-other_is : (p : Place) → sequence (java_stmts p other_body) ≡ sequence ((pure (Integer Int (pos 7)) >>= print_line) ∷ [])
+other_is : (p : Place) → sequence (java_stmts p other_body) ≡ sequence ((pure (Integer Int (pos 7)) >>= print_line p) ∷ [])
 other_is p = rw (java_number p 7) refl
 
 abbrev wraps : JMain

@@ -1,34 +1,43 @@
 -- Worked runs of hand-made programs: class initialization by two threads, monitors, thread starts, input.
 use Rattle.std.proofs.Common.{◌≡◌, ℕ, pos, negsuc, true, false, List, [], ◌∷◌, refl}
 use Rattle.std.specs.Prelude.{codes}
+use Prim.Native.String.{String}
 use Rattle.std.specs.Fmt.{digits}
-use Rattle.meanings.specs.Values.{Name, same_name, Site, Value, Null, Integer, Class, Object, Lambda, NoMore, Int, Touch, InitEnd, Enter, Exit, Print, ReadByte, Raise, Start as StartStep, Join, End, Result, Uncaught, Ready, Run, Mine, Failed, Done, Given, Raised}
+use Rattle.meanings.specs.Values.{Name, ClassName, Simple, same_class, Site, Value, Null, Integer, Class, Object, Lambda, NoMore, Int, Touch, InitEnd, Enter, Exit, Print, ReadByte, Raise, Start as StartStep, Join, End, Result, Uncaught, Ready, Run, Mine, Failed, Done, Given, Raised}
 use Rattle.meanings.specs.Outcome.{Throws, Meaning, ◌>>◌, ◌>>=◌, pure, jump}
+use Rattle.meanings.specs.Classes.{plain_classes}
 use Rattle.meanings.specs.Machine.{Place, touch, ask_value, ask_done, print_line}
 use Rattle.meanings.specs.Library.{Content}
 use Rattle.meanings.specs.World.{World, Status}
-use Rattle.meanings.specs.Program.{Program, Enters, thread, is_library_error, main_entry}
+use Rattle.meanings.specs.Program.{Program, Enters, thread, plain_callee, main_site, main_entry}
 use Rattle.meanings.specs.Runs.{Thread, Item, Stepped, Blocked, HadEnded, run}
 
-abbrev a : Name
-a = codes "A"
+abbrev a_name : Name
+a_name = codes "A"
+
+abbrev a : ClassName
+a = Simple a_name
 
 abbrev main : Site
-main = record { class = codes "Main"; is_static = true; ordinal = 0 }
+main = main_site (codes "Main")
+
+-- an object of a class, which captured nothing
+abbrev object : String → ℕ → Value
+object class k = Object (Simple (codes class)) k NoMore
 
 -- one method, what its text does, and what the initializer of A does
 abbrev program : (Place → Meaning (Unit {0})) → (Place → Meaning (Unit {0})) → Program
 program text initializer = record {
   methods = record { site = main; parameters = []; text = text } ∷ [];
   constructors = [];
-  lambdas = record { site = main; parameters = []; text = λ p. print_line (Integer Int (pos 5)) } ∷ [];
+  lambdas = record { site = main; parameters = []; text = λ p. print_line p (Integer Int (pos 5)) } ∷ [];
   initializers = record { class = a; text = initializer } ∷ [];
   entry = main_entry (codes "Main" ∷ []);
   defaults = [];
   is_idle = λ name. true;
-  touches = λ own name. same_name name a;
-  resolves = λ site name. site;
-  is_error = is_library_error;
+  touches = λ own name. same_class name a;
+  resolves = plain_callee;
+  classes = plain_classes;
 }
 
 -- a world with these objects, statuses and bytes
@@ -49,7 +58,7 @@ run_two p schedule = run (thread p) 9 (world [] (status ∷ status ∷ []) []) (
 
 -- both threads touch A, whose initializer touches A itself and prints 7
 abbrev well : Program
-well = program (λ p. touch p a >> print_line (Integer Int (pos 1))) (λ p. touch p a >> print_line (Integer Int (pos 7)))
+well = program (λ p. touch p a >> print_line p (Integer Int (pos 1))) (λ p. touch p a >> print_line p (Integer Int (pos 7)))
 
 initialized_once : run_two well (0 ∷ 1 ∷ 0 ∷ 1 ∷ 0 ∷ 0 ∷ 1 ∷ 1 ∷ []) ≡
     Stepped 0 (Touch a) Run ∷
@@ -65,50 +74,50 @@ initialized_once = refl
 
 -- the initializer throws
 abbrev badly : Program
-badly = program (λ p. touch p a >> print_line (Integer Int (pos 1))) (λ p. jump (Throws (Object (codes "ArithmeticException") 9)))
+badly = program (λ p. touch p a >> print_line p (Integer Int (pos 1))) (λ p. jump (Throws (object "ArithmeticException" 9)))
 
 failed_once : run_two badly (0 ∷ 1 ∷ 0 ∷ 1 ∷ 0 ∷ 1 ∷ 0 ∷ 1 ∷ []) ≡
     Stepped 0 (Touch a) Run ∷
     Blocked 1 (Touch a) ∷
     Stepped 0 (InitEnd a false) Done ∷
     Stepped 1 (Touch a) Failed ∷
-    Stepped 0 (Raise (codes "ExceptionInInitializerError")) (Given (Object (codes "ExceptionInInitializerError") 0)) ∷
-    Stepped 1 (Raise (codes "NoClassDefFoundError")) (Given (Object (codes "NoClassDefFoundError") 1)) ∷
-    Stepped 0 (End (Uncaught (Object (codes "ExceptionInInitializerError") 0))) Done ∷
-    Stepped 1 (End (Uncaught (Object (codes "NoClassDefFoundError") 1))) Done ∷ []
+    Stepped 0 (Raise (codes "ExceptionInInitializerError")) (Given (object "ExceptionInInitializerError" 0)) ∷
+    Stepped 1 (Raise (codes "NoClassDefFoundError")) (Given (object "NoClassDefFoundError" 1)) ∷
+    Stepped 0 (End (Uncaught (object "ExceptionInInitializerError" 0))) Done ∷
+    Stepped 1 (End (Uncaught (object "NoClassDefFoundError" 1))) Done ∷ []
 failed_once = refl
 
 -- an Error that an initializer throws is thrown on
 abbrev in_error : Program
-in_error = program (λ p. touch p a) (λ p. jump (Throws (Object (codes "Error") 9)))
+in_error = program (λ p. touch p a) (λ p. jump (Throws (object "Error" 9)))
 
 error_thrown_on : run_two in_error (0 ∷ 0 ∷ 0 ∷ []) ≡
     Stepped 0 (Touch a) Run ∷
     Stepped 0 (InitEnd a false) Done ∷
-    Stepped 0 (End (Uncaught (Object (codes "Error") 9))) Done ∷ []
+    Stepped 0 (End (Uncaught (object "Error" 9))) Done ∷ []
 error_thrown_on = refl
 
 -- ---- monitors
 
 -- entered twice, left twice
 abbrev twice : Program
-twice = program (λ p. ask_done (Enter (Class a)) >> ask_done (Enter (Class a)) >> ask_done (Exit (Class a)) >> ask_done (Exit (Class a))) (λ p. pure tt)
+twice = program (λ p. ask_done (Enter (Class a_name)) >> ask_done (Enter (Class a_name)) >> ask_done (Exit (Class a_name)) >> ask_done (Exit (Class a_name))) (λ p. pure tt)
 
 counted : run_two twice (0 ∷ 1 ∷ 0 ∷ 0 ∷ 1 ∷ 0 ∷ 1 ∷ 0 ∷ []) ≡
-    Stepped 0 (Enter (Class a)) Done ∷
-    Blocked 1 (Enter (Class a)) ∷
-    Stepped 0 (Enter (Class a)) Done ∷
-    Stepped 0 (Exit (Class a)) Done ∷
-    Blocked 1 (Enter (Class a)) ∷
-    Stepped 0 (Exit (Class a)) Done ∷
-    Stepped 1 (Enter (Class a)) Done ∷
+    Stepped 0 (Enter (Class a_name)) Done ∷
+    Blocked 1 (Enter (Class a_name)) ∷
+    Stepped 0 (Enter (Class a_name)) Done ∷
+    Stepped 0 (Exit (Class a_name)) Done ∷
+    Blocked 1 (Enter (Class a_name)) ∷
+    Stepped 0 (Exit (Class a_name)) Done ∷
+    Stepped 1 (Enter (Class a_name)) Done ∷
     Stepped 0 (End (Result Null)) Done ∷ []
 counted = refl
 
 -- ---- threads
 
 abbrev thread_object : Value
-thread_object = Object (codes "Thread") 0
+thread_object = object "Thread" 0
 
 -- the thread is started, joined, and started again
 abbrev starts : Program
@@ -122,15 +131,15 @@ started_once : run (thread starts) 9 (world (record { fields = []; elements = La
     Stepped 1 (End (Result Null)) Done ∷
     Stepped 0 (Join thread_object) Done ∷
     HadEnded 1 ∷
-    Stepped 0 (StartStep thread_object) (Raised (Object (codes "IllegalThreadStateException") 1)) ∷
-    Stepped 0 (End (Uncaught (Object (codes "IllegalThreadStateException") 1))) Done ∷ []
+    Stepped 0 (StartStep thread_object) (Raised (object "IllegalThreadStateException" 1)) ∷
+    Stepped 0 (End (Uncaught (object "IllegalThreadStateException" 1))) Done ∷ []
 unfolding digits
 started_once = refl
 
 -- ---- input
 
 abbrev reads : Program
-reads = program (λ p. (ask_value ReadByte >>= print_line) >> (ask_value ReadByte >>= print_line)) (λ p. pure tt)
+reads = program (λ p. (ask_value ReadByte >>= print_line p) >> (ask_value ReadByte >>= print_line p)) (λ p. pure tt)
 
 read_to_the_end : run (thread reads) 9 (world [] (status ∷ []) (65 ∷ [])) (fresh_thread ∷ []) (0 ∷ 0 ∷ 0 ∷ 0 ∷ []) ≡
     Stepped 0 ReadByte (Given (Integer Int (pos 65))) ∷

@@ -1,5 +1,5 @@
 -- Which files of this form are well typed Java.
-use Rattle.std.specs.Prelude.{◌≡◌, true, false, List, [], ◌∷◌, Option, Some, None}
+use Rattle.std.specs.Prelude.{◌≡◌, true, false, List, [], ◌∷◌, Option, Some, None, option_map, filter_map}
 use Rattle.meanings.specs.declared.java.JExpr.{JExpr, every-JExpr}
 use Rattle.meanings.specs.declared.java.JExpr.TheOpen.{JExpr-F}
 use Rattle.meanings.specs.declared.java.JStmt.{JStmt}
@@ -7,7 +7,7 @@ use Rattle.meanings.specs.declared.java.JStmt.TheVariants.{Local, Print}
 use Rattle.meanings.specs.declared.java.JMain.{JMain}
 use Rattle.meanings.specs.declared.java.JClass.{JClass}
 use Rattle.meanings.specs.declared.java.JFile.{JFile}
-use Rattle.meanings.specs.Values.{Name, same_name, is_among}
+use Rattle.meanings.specs.Values.{Name, same_name, is_among, Differ}
 
 -- a use of a local stands after its declaration (JLS 6.3); these are the names of the locals declared before, all `int`
 abbrev pub known_by : List Name → JExpr-F JExpr → Type 0
@@ -38,5 +38,19 @@ ClassIsTyped None = Unit {0}
 ClassIsTyped (Some class) = MainIsTyped class.main
 
 -- a file whose class is well typed
-abbrev pub JTyped : JFile → Type 0
-JTyped file = ClassIsTyped file.class
+abbrev pub IsTypedFile : JFile → Type 0
+IsTypedFile file = ClassIsTyped file.class
+
+-- each file's class is well typed
+abbrev pub AllAreTyped : List JFile → Type 0
+AllAreTyped [] = Unit {0}
+AllAreTyped (file ∷ files) = IsTypedFile file × AllAreTyped files
+
+-- the simple names of the classes of files
+abbrev pub class_names : List JFile → List Name
+class_names files = filter_map (λ file. option_map (λ (class : JClass). class.name) file.class) files
+
+-- the classes of the files are well typed, and no two of them have one simple name (own rule)
+pub record JTyped (files : List JFile) : Type 0 where
+  pub classes : AllAreTyped files
+  pub names : Differ (class_names files)

@@ -9,8 +9,10 @@ use Rattle.meanings.specs.declared.java.JClass.{JClass}
 use Rattle.meanings.specs.declared.java.JFile.{JFile}
 use Rattle.meanings.specs.Values.{Name, Value, Integer, Int, Answer}
 use Rattle.meanings.specs.Outcome.{Meaning, pure, ◌>>=◌, local, assign}
+use Rattle.meanings.specs.Classes.{plain_classes}
+use Rattle.meanings.specs.Operators.{operation}
 use Rattle.meanings.specs.Machine.{Place, print_line, arithmetic, binary, sequence}
-use Rattle.meanings.specs.Program.{Program, Body, Start, Turn, thread, is_library_error, main_site, main_entry}
+use Rattle.meanings.specs.Program.{Program, Body, Start, Turn, thread, plain_callee, main_site, main_entry}
 
 -- one form, by what its parts do: a simple name (JLS 6.5.6.1), a decimal literal (JLS 3.10.1, 15.8.1), a parenthesized
 -- expression (JLS 15.8.5), `+ - *` of two ints, the left one first (JLS 15.7.1, 15.17.1, 15.18.2)
@@ -18,7 +20,7 @@ abbrev pub java_by : Place → JExpr-F (Meaning Value) → Meaning Value
 java_by p (JExpr-F.Local name) = local name
 java_by p (JExpr-F.Number n) = pure (Integer Int (pos n))
 java_by p (JExpr-F.Paren inner) = inner
-java_by p (JExpr-F.Binary a operator b) = binary (arithmetic Int operator) a b
+java_by p (JExpr-F.Binary a operator b) = binary (arithmetic (operation operator) Int Int) a b
 
 -- an expression
 unfoldable pub java_expr : Place → JExpr → Meaning Value
@@ -27,7 +29,7 @@ java_expr p = fold-JExpr (Meaning Value) (java_by p)
 -- a local with its initializer (JLS 14.4.2); `println` as an expression statement (JLS 14.8)
 abbrev pub java_stmt : Place → JStmt → Meaning (Unit {0})
 java_stmt p (Local name value) = java_expr p value >>= assign name
-java_stmt p (Print value) = java_expr p value >>= print_line
+java_stmt p (Print value) = java_expr p value >>= print_line p
 
 -- the statements of a block in order (JLS 14.2)
 abbrev pub java_stmts : Place → List JStmt → List (Meaning (Unit {0}))
@@ -60,8 +62,8 @@ java_program classes = record {
   defaults = [];
   is_idle = λ name. true;
   touches = λ own name. false;
-  resolves = λ site name. site;
-  is_error = is_library_error;
+  resolves = plain_callee;
+  classes = plain_classes;
 }
 
 -- what a thread of the Java project does next after these answers, with the bound n

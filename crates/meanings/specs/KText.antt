@@ -4,7 +4,6 @@ use Rattle.std.specs.Fmt.{decimal}
 use Rattle.std.specs.List.{flat_map}
 use Rattle.meanings.specs.declared.operators.Operator.{Operator}
 use Rattle.meanings.specs.declared.operators.Operator.TheVariants.{Plus, Minus, Times}
-use Rattle.meanings.specs.declared.operators.TheConstants.{PLUS, MINUS, TIMES}
 use Rattle.meanings.specs.declared.kotlin.KExpr.{KExpr, fold-KExpr}
 use Rattle.meanings.specs.declared.kotlin.KExpr.TheOpen.{KExpr-F}
 use Rattle.meanings.specs.declared.kotlin.KStmt.{KStmt}
@@ -12,14 +11,13 @@ use Rattle.meanings.specs.declared.kotlin.KStmt.TheVariants.{Val, Print}
 use Rattle.meanings.specs.declared.kotlin.KMain.{KMain}
 use Rattle.meanings.specs.declared.kotlin.KClass.{KClass}
 use Rattle.meanings.specs.declared.kotlin.KFile.{KFile}
-use Rattle.meanings.specs.declared.kotlin.TheConstants.{KOTLIN_PACKAGE, KOTLIN_DOT, KOTLIN_PACKAGE_END, KOTLIN_EMPTY_LINE, KOTLIN_CLASS, KOTLIN_CLASS_OPEN, KOTLIN_MAIN, KOTLIN_MAIN_OPEN, KOTLIN_VAL, KOTLIN_IS, KOTLIN_VAL_END, KOTLIN_PRINT, KOTLIN_PRINT_END, KOTLIN_MAIN_END, KOTLIN_CLASS_END}
 use Rattle.meanings.specs.Values.{Name}
 
 -- an operator, with its blanks
 abbrev pub operator_text : Operator → List ℕ
-operator_text Plus = PLUS.now
-operator_text Minus = MINUS.now
-operator_text Times = TIMES.now
+operator_text Plus = codes " + "
+operator_text Minus = codes " - "
+operator_text Times = codes " * "
 
 -- one form, by the texts of its parts
 abbrev pub expression_by : KExpr-F (List ℕ) → List ℕ
@@ -34,32 +32,32 @@ expression_text = fold-KExpr (List ℕ) expression_by
 
 -- a property declaration or a call (own layout: one statement a line)
 abbrev pub statement_text : KStmt → List ℕ
-statement_text (Val name value) = KOTLIN_VAL.now ++ name ++ KOTLIN_IS.now ++ expression_text value ++ KOTLIN_VAL_END.now
-statement_text (Print value) = KOTLIN_PRINT.now ++ expression_text value ++ KOTLIN_PRINT_END.now
+statement_text (Val name value) = codes "            val " ++ name ++ codes ": Int = " ++ expression_text value ++ codes "\n"
+statement_text (Print value) = codes "            println(" ++ expression_text value ++ codes ")\n"
 
 -- `main` in the companion, where there is one
 abbrev pub main_text : Option KMain → List ℕ
 main_text None = []
-main_text (Some main) = KOTLIN_MAIN.now ++ main.parameter ++ KOTLIN_MAIN_OPEN.now ++ flat_map statement_text main.body ++ KOTLIN_MAIN_END.now
+main_text (Some main) = codes "    companion object {\n        @JvmStatic fun main(" ++ main.parameter ++ codes ": Array<String>) {\n" ++ flat_map statement_text main.body ++ codes "        }\n    }\n"
 
 -- a class declaration (own layout: four blanks a level)
 abbrev pub class_text : KClass → List ℕ
-class_text class = KOTLIN_CLASS.now ++ class.name ++ KOTLIN_CLASS_OPEN.now ++ main_text class.main ++ KOTLIN_CLASS_END.now
+class_text class = codes "class " ++ class.name ++ codes " {\n" ++ main_text class.main ++ codes "}\n"
 
 -- a further part of a qualified name
 abbrev pub part_text : Name → List ℕ
-part_text name = KOTLIN_DOT.now ++ name
+part_text name = codes "." ++ name
 
 -- a package header, by the first part of its name and the others
 abbrev pub package_text : Name → List Name → List ℕ
-package_text first parts = KOTLIN_PACKAGE.now ++ first ++ flat_map part_text parts ++ KOTLIN_PACKAGE_END.now
+package_text first parts = codes "package " ++ first ++ flat_map part_text parts ++ codes "\n"
 
 -- a file's package and class (own layout: an empty line between them)
 abbrev pub file_text : List Name → Option KClass → List ℕ
 file_text [] None = []
 file_text [] (Some class) = class_text class
 file_text (first ∷ parts) None = package_text first parts
-file_text (first ∷ parts) (Some class) = package_text first parts ++ KOTLIN_EMPTY_LINE.now ++ class_text class
+file_text (first ∷ parts) (Some class) = package_text first parts ++ codes "\n" ++ class_text class
 
 -- the bytes of a file (own layout)
 unfoldable pub KText : KFile → List ℕ

@@ -10,9 +10,11 @@ use Rattle.meanings.specs.declared.kotlin.KClass.{KClass}
 use Rattle.meanings.specs.declared.kotlin.KFile.{KFile}
 use Rattle.meanings.specs.Values.{Name, Kind, Value, Integer, Int, is_null, Answer}
 use Rattle.meanings.specs.Outcome.{Meaning, pure, ◌>>=◌, ◌>>◌, torn, local, assign}
+use Rattle.meanings.specs.Classes.{plain_classes}
+use Rattle.meanings.specs.Operators.{operation}
 use Rattle.meanings.specs.Machine.{Place, print_line, arithmetic, binary}
-use Rattle.meanings.specs.Program.{Program, Body, Start, Turn, thread, is_library_error, main_site, main_entry}
-use Rattle.meanings.specs.Static.{KType, is_non_null, Static, declared, type_of, extended, main_static}
+use Rattle.meanings.specs.Program.{Program, Body, Start, Turn, thread, plain_callee, main_site, main_entry}
+use Rattle.meanings.specs.Static.{KType, is_non_null, Static, declared, type_of, past, extended, main_static}
 
 -- A value at a use: null at a place of a non-null type is Torn (own rule). Where no type is known nothing is.
 abbrev pub used : Option KType → Value → Meaning Value
@@ -24,32 +26,37 @@ abbrev pub operator_kind : Option KType → Kind
 operator_kind None = Int
 operator_kind (Some type) = Int
 
+-- what a part does at a place of its text, as it runs
+abbrev pub Doing : Type 0 → Type 0
+Doing A = Static → Place → Meaning A
+
 -- one form, by its parts and what they do: a name, by the type of its declaration, a literal (Kotlin, "Built-in types and their
 -- operations"), a parenthesized expression, `plus`, `minus` and `times`, the receiver first (Kotlin, class Int: the low 32 bits)
-abbrev pub kotlin_by : Place → Static → KExpr-F (KExpr × Meaning Value) → Meaning Value
-kotlin_by p static (KExpr-F.Local name) = local name >>= used (declared static name)
-kotlin_by p static (KExpr-F.Number n) = pure (Integer Int (pos n))
-kotlin_by p static (KExpr-F.Paren inner) = inner.1
-kotlin_by p static (KExpr-F.Binary a operator b) =
-    binary (arithmetic (operator_kind (type_of static (ke.Binary a.0 operator b.0))) operator) a.1 b.1
+abbrev pub kotlin_by : KExpr-F (KExpr × Doing Value) → Doing Value
+kotlin_by (KExpr-F.Local name) static p = local name >>= used (declared static name)
+kotlin_by (KExpr-F.Number n) static p = pure (Integer Int (pos n))
+kotlin_by (KExpr-F.Paren inner) static p = inner.1 static p
+kotlin_by (KExpr-F.Binary a operator b) static p =
+    let kind = operator_kind (type_of (ke.Binary a.0 operator b.0) static) in
+    binary (arithmetic (operation operator) kind kind) (a.1 static p) (b.1 (past a.0 static) p)
 
 -- an expression
-unfoldable pub kotlin_expr : Place → Static → KExpr → Meaning Value
-kotlin_expr p static = para-KExpr (Meaning Value) (kotlin_by p static)
+unfoldable pub kotlin_expr : KExpr → Doing Value
+kotlin_expr = para-KExpr (Doing Value) kotlin_by
 
 -- a property declaration (Kotlin, "Local property declaration"); a call of `println`
-abbrev pub kotlin_stmt : Place → Static → KStmt → Meaning (Unit {0})
-kotlin_stmt p static (Val name value) = kotlin_expr p static value >>= assign name
-kotlin_stmt p static (Print value) = kotlin_expr p static value >>= print_line
+abbrev pub kotlin_stmt : KStmt → Doing (Unit {0})
+kotlin_stmt (Val name value) static p = kotlin_expr value static p >>= assign name
+kotlin_stmt (Print value) static p = kotlin_expr value static p >>= print_line p
 
 -- the statements of a block in order, each with the types declared before it
-abbrev pub kotlin_stmts : Place → Static → List KStmt → Meaning (Unit {0})
-kotlin_stmts p static [] = pure tt
-kotlin_stmts p static (statement ∷ more) = kotlin_stmt p static statement >> kotlin_stmts p (extended static statement) more
+abbrev pub kotlin_stmts : List KStmt → Doing (Unit {0})
+kotlin_stmts [] static p = pure tt
+kotlin_stmts (statement ∷ more) static p = kotlin_stmt statement static p >> kotlin_stmts more (extended static statement) p
 
 -- `main` of a class of this name, which the companion holds
 abbrev pub kotlin_main : Name → KMain → Body
-kotlin_main class main = record { site = main_site class; parameters = main.parameter ∷ []; text = λ p. kotlin_stmts p (main_static main.parameter) main.body }
+kotlin_main class main = record { site = main_site class; parameters = main.parameter ∷ []; text = kotlin_stmts main.body (main_static class main.parameter) }
 
 -- the method of a class, where it has one
 abbrev pub kotlin_method : KClass → Option Body
@@ -74,8 +81,8 @@ kotlin_program classes = record {
   defaults = [];
   is_idle = λ name. true;
   touches = λ own name. false;
-  resolves = λ site name. site;
-  is_error = is_library_error;
+  resolves = plain_callee;
+  classes = plain_classes;
 }
 
 -- what a thread of the Kotlin project does next after these answers, with the bound n

@@ -1,8 +1,8 @@
 -- What holds of every program, world and run.
 use Rattle.std.specs.Prelude.{◌≡◌, ◌↔◌, ℕ, zero, suc, ◌+◌, ◌≤◌, Bool, true, false, List, [], ◌∷◌, ◌++◌, length, Some, slice_get, if◌then◌else◌, ◌==◌}
 use Rattle.meanings.specs.declared.java.JFile.{JFile}
-use Rattle.meanings.specs.Values.{Name, same_name, Field, Value, same_value, Step, Touch, InitEnd, Alloc, Put, PutStatic, PutElem, Enter, Exit, Print, ReadByte, Lib, Raise, Start as StartStep, End, Answer}
-use Rattle.meanings.specs.Convert.{file_of}
+use Rattle.meanings.specs.Values.{ClassName, same_class, Field, Value, same_value, Step, Touch, InitEnd, Alloc, Put, PutStatic, PutElem, Enter, Exit, Print, ReadByte, Lib, Raise, Start as StartStep, End, Answer}
+use Rattle.meanings.specs.Convert.{file_of, files_of}
 use Rattle.meanings.specs.JTyped.{JTyped}
 use Rattle.meanings.specs.JNamed.{JNamed}
 use Rattle.meanings.specs.KSpells.{KSpells}
@@ -18,9 +18,9 @@ SameIsEqual = (v w : Value) → (same_value v w ≡ true) ↔ (v ≡ w)
 
 -- ---- typing
 
--- the Kotlin of a well typed file is well typed
+-- the Kotlin of well typed files is well typed
 abbrev pub TypesAreKept : Type 0
-TypesAreKept = (file : JFile) → JTyped file → KTyped (file_of file)
+TypesAreKept = (files : List JFile) → JTyped files → KTyped (files_of files)
 
 -- the canonical text of the Kotlin of a file spells it
 abbrev pub SpellingIsKept : Type 0
@@ -34,30 +34,30 @@ SameAtEveryDepth program = (start : Start) (answers : List Answer) (n d : ℕ) �
 
 -- ---- runs
 
--- a test of the world and the threads that each turn keeps
-pub record IsKept (next : Behavior) (n : ℕ) (holds : World → List Thread → Bool) : Type 0 where
-  pub kept : (w : World) (ts : List Thread) (i : ℕ) → holds w ts ≡ true → holds (turn_of next n w ts i (slice_get ts i)).world (turn_of next n w ts i (slice_get ts i)).threads ≡ true
+-- what holds of the world and the threads is kept by each turn
+pub record IsKept (next : Behavior) (n : ℕ) (Holds : World → List Thread → Type 0) : Type 0 where
+  pub kept : (w : World) (ts : List Thread) (i : ℕ) → Holds w ts → Holds (turn_of next n w ts i (slice_get ts i)).world (turn_of next n w ts i (slice_get ts i)).threads
 
--- the threads do the same next, in each world where the test holds
-pub record SameThreads (next next' : Behavior) (n : ℕ) (holds : World → List Thread → Bool) : Type 0 where
-  pub same : (w : World) (ts : List Thread) → holds w ts ≡ true → (i : ℕ) (t : Thread) → slice_get ts i ≡ Some t → next t.start t.had n ≡ next' t.start t.had n
+-- the threads do the same next, in each world where it holds
+pub record SameThreads (next next' : Behavior) (n : ℕ) (Holds : World → List Thread → Type 0) : Type 0 where
+  pub same : (w : World) (ts : List Thread) → Holds w ts → (i : ℕ) (t : Thread) → slice_get ts i ≡ Some t → next t.start t.had n ≡ next' t.start t.had n
 
 -- equal threads, under an invariant that each turn keeps, give equal runs for every schedule
-abbrev pub EqualRuns : Type 0
-EqualRuns = (next next' : Behavior) (n : ℕ) (holds : World → List Thread → Bool) → IsKept next n holds → SameThreads next next' n holds →
-    (w : World) (ts : List Thread) → holds w ts ≡ true → (schedule : List ℕ) → run next n w ts schedule ≡ run next' n w ts schedule
+abbrev pub EqualRuns : (World → List Thread → Type 0) → Type 0
+EqualRuns Holds = (next next' : Behavior) (n : ℕ) → IsKept next n Holds → SameThreads next next' n Holds →
+    (w : World) (ts : List Thread) → Holds w ts → (schedule : List ℕ) → run next n w ts schedule ≡ run next' n w ts schedule
 
--- A test that relates two worlds and the threads: where it holds, a turn records the same in both and leaves the same threads, and it holds again.
+-- What relates two worlds and the threads: where it holds, a turn records the same in both and leaves the same threads, and it holds again.
 -- Two worlds need not be equal: a field that is stored before each read may have another default in each language.
-pub record MatchingTurns (next next' : Behavior) (n : ℕ) (holds : World → World → List Thread → Bool) : Type 0 where
-  pub item : (w w' : World) (ts : List Thread) (i : ℕ) → holds w w' ts ≡ true → (turn_of next n w ts i (slice_get ts i)).item ≡ (turn_of next' n w' ts i (slice_get ts i)).item
-  pub threads : (w w' : World) (ts : List Thread) (i : ℕ) → holds w w' ts ≡ true → (turn_of next n w ts i (slice_get ts i)).threads ≡ (turn_of next' n w' ts i (slice_get ts i)).threads
-  pub kept : (w w' : World) (ts : List Thread) (i : ℕ) → holds w w' ts ≡ true → holds (turn_of next n w ts i (slice_get ts i)).world (turn_of next' n w' ts i (slice_get ts i)).world (turn_of next n w ts i (slice_get ts i)).threads ≡ true
+pub record MatchingTurns (next next' : Behavior) (n : ℕ) (Relates : World → World → List Thread → Type 0) : Type 0 where
+  pub item : (w w' : World) (ts : List Thread) (i : ℕ) → Relates w w' ts → (turn_of next n w ts i (slice_get ts i)).item ≡ (turn_of next' n w' ts i (slice_get ts i)).item
+  pub threads : (w w' : World) (ts : List Thread) (i : ℕ) → Relates w w' ts → (turn_of next n w ts i (slice_get ts i)).threads ≡ (turn_of next' n w' ts i (slice_get ts i)).threads
+  pub kept : (w w' : World) (ts : List Thread) (i : ℕ) → Relates w w' ts → Relates (turn_of next n w ts i (slice_get ts i)).world (turn_of next' n w' ts i (slice_get ts i)).world (turn_of next n w ts i (slice_get ts i)).threads
 
 -- matching turns give equal runs, also from worlds that aren't equal
-abbrev pub MatchingRuns : Type 0
-MatchingRuns = (next next' : Behavior) (n : ℕ) (holds : World → World → List Thread → Bool) → MatchingTurns next next' n holds →
-    (w w' : World) (ts : List Thread) → holds w w' ts ≡ true → (schedule : List ℕ) → run next n w ts schedule ≡ run next' n w' ts schedule
+abbrev pub MatchingRuns : (World → World → List Thread → Type 0) → Type 0
+MatchingRuns Relates = (next next' : Behavior) (n : ℕ) → MatchingTurns next next' n Relates →
+    (w w' : World) (ts : List Thread) → Relates w w' ts → (schedule : List ℕ) → run next n w ts schedule ≡ run next' n w' ts schedule
 
 -- the item is a step with its answer
 abbrev pub is_step : Item → Bool
@@ -120,9 +120,9 @@ changes_threads (End ending) = true
 changes_threads _ = false
 
 -- whether the step is about this class's initialization
-abbrev pub names_class : Step → Name → Bool
-names_class (Touch other) class = same_name other class
-names_class (InitEnd other well) class = same_name other class
+abbrev pub names_class : Step → ClassName → Bool
+names_class (Touch other) class = same_class other class
+names_class (InitEnd other well) class = same_class other class
 names_class _ class = false
 
 -- how often the monitor of a value is entered
@@ -153,9 +153,9 @@ pub record Answered (w : World) (thread : ℕ) (p : Step) (after : World) : Type
   pub defaults : after.defaults ≡ w.defaults
   pub heap : changes_heap p ≡ false → after.heap ≡ w.heap
   pub threads : changes_threads p ≡ false → after.threads ≡ w.threads
-  pub classes : (class : Name) → names_class p class ≡ false → state_of after.classes class ≡ state_of w.classes class
-  pub ready : (class : Name) → state_of w.classes class ≡ IsReady → state_of after.classes class ≡ IsReady
-  pub failed : (class : Name) → state_of w.classes class ≡ IsFailed → state_of after.classes class ≡ IsFailed
+  pub classes : (class : ClassName) → names_class p class ≡ false → state_of after.classes class ≡ state_of w.classes class
+  pub ready : (class : ClassName) → state_of w.classes class ≡ IsReady → state_of after.classes class ≡ IsReady
+  pub failed : (class : ClassName) → state_of w.classes class ≡ IsFailed → state_of after.classes class ≡ IsFailed
   pub monitors : (v : Value) → count_of after v + exits w thread p v ≡ count_of w v + entries p v
 
 -- this holds of each answer
@@ -177,7 +177,7 @@ all_printed (Missing i ∷ items) = all_printed items
 pub record Grows (next : Behavior) (n : ℕ) (w : World) (ts : List Thread) (schedule : List ℕ) : Type 0 where
   pub items : length (run next n w ts schedule) ≡ length schedule
   pub output : (world_after next n w ts schedule).output ≡ w.output ++ all_printed (run next n w ts schedule)
-  pub ready : (class : Name) → state_of w.classes class ≡ IsReady → state_of (world_after next n w ts schedule).classes class ≡ IsReady
+  pub ready : (class : ClassName) → state_of w.classes class ≡ IsReady → state_of (world_after next n w ts schedule).classes class ≡ IsReady
 
 -- this holds of each run
 abbrev pub RunsGrow : Type 0

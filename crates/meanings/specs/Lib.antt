@@ -2,10 +2,14 @@ pub mod Levels
 pub mod Convert
 pub mod KText
 pub mod Values
+pub mod Classes
+pub mod Operators
 pub mod Outcome
 pub mod Machine
 pub mod Program
 pub mod Library
+pub mod Objects
+pub mod Same
 pub mod World
 pub mod Runs
 pub mod Java
@@ -17,3 +21,5 @@ pub mod Laws
 pub mod JNamed
 pub mod JTyped
 pub mod KSpells
+pub mod Tables
+pub mod Safety

@@ -21,6 +21,8 @@ pub record State : Type 0 where
 pub data Exit : Type 0 where
   Break : Option Name → Exit
   Continue : Option Name → Exit
+  -- `return@synchronized` (Kotlin, "Jump expressions")
+  Leave : Exit
 
 -- how a part ends abruptly (JLS 14.1)
 pub data Jump : Type 0 where

@@ -1,8 +1,9 @@
 -- A program of either language, and its threads.
-use Rattle.std.specs.Prelude.{ℕ, zero, suc, ◌+◌, Bool, true, false, not, ◌&&◌, Option, Some, None, List, [], ◌∷◌, ◌++◌, length, if◌then◌else◌, codes}
-use Rattle.meanings.specs.Values.{Name, same_name, Field, Site, same_site, Value, Null, Step, End, Result, Uncaught, Answer}
-use Rattle.meanings.specs.Outcome.{Exits, Returns, Throws, Outcome, Asks, Busy, Gives, Jumps, Meaning, ◌>>◌, pure, busy, pay, assign_all}
-use Rattle.meanings.specs.Machine.{Bodies, Place, touch, call, call_on}
+use Rattle.std.specs.Prelude.{ℕ, zero, suc, ◌+◌, Bool, true, false, not, ◌&&◌, ◌==◌, Option, Some, None, List, [], ◌∷◌, ◌++◌, length, if◌then◌else◌, codes}
+use Rattle.meanings.specs.Values.{Name, same_name, ClassName, Simple, same_class, Field, Site, same_site, Value, Null, Lambda, Step, End, Result, Uncaught, Answer}
+use Rattle.meanings.specs.Outcome.{Exits, Returns, Throws, Outcome, Asks, Busy, Gives, Jumps, Meaning, ◌>>◌, pure, torn, busy, pay, assign_all}
+use Rattle.meanings.specs.Classes.{Classes}
+use Rattle.meanings.specs.Machine.{Bodies, Callee, InBody, InText, Place, touch, call, call_on}
 
 -- a method, constructor or lambda body: its parameters, `this` first, and what its text does at a place
 pub record Body : Type 0 where
@@ -12,7 +13,7 @@ pub record Body : Type 0 where
 
 -- the static initializers of a class, its superclass's first (JLS 12.4.2, step 7)
 pub record Initializer : Type 0 where
-  pub class : Name
+  pub class : ClassName
   pub text : Place → Meaning (Unit {0})
 
 -- what a language's text gives of a project
@@ -21,37 +22,39 @@ pub record Program : Type 0 where
   pub constructors : List Body
   pub lambdas : List Body
   pub initializers : List Initializer
-  -- where the static method stands that an entry point names, by its class and its name (JLS 12.1.4)
-  pub entry : Name → Name → Option Site
+  -- where the static method stands that an entry point names, by its class, its name and its number of parameters (JLS 12.1.4)
+  pub entry : Name → Name → ℕ → Option Site
   -- the fields and statics whose default is not null (JLS 4.12.5)
   pub defaults : List (Field × Value)
   -- a class that is never touched (own rule)
-  pub is_idle : Name → Bool
+  pub is_idle : ClassName → Bool
   -- whether the text of the first class touches the second
-  pub touches : Name → Name → Bool
-  -- the method that a call of this one enters on an object of the class (JLS 15.12.4.4)
-  pub resolves : Site → Name → Site
-  -- whether the class is Error or below it (JLS 11.1.1)
-  pub is_error : Name → Bool
+  pub touches : ClassName → ClassName → Bool
+  -- what a call of this method on this value enters (JLS 15.12.4.4)
+  pub resolves : Site → Value → Callee
+  -- what is known of its classes
+  pub classes : Classes
 
--- The Errors of the library (JLS 11.1.1); a project's own are its classes below them.
-abbrev pub is_library_error : Name → Bool
-is_library_error name = if same_name name (codes "Error") then true else (if same_name name (codes "ExceptionInInitializerError") then true else same_name name (codes "NoClassDefFoundError"))
+-- where no method overrides another and no interface has a body: a lambda is its text, another value enters the method itself
+abbrev pub plain_callee : Site → Value → Callee
+plain_callee site (Lambda own k captured) = InText
+plain_callee site _ = InBody site
 
 -- the method `run` of Runnable, which a new thread calls
 abbrev pub run_site : Site
-run_site = record { class = codes "Runnable"; is_static = false; ordinal = 0 }
+run_site = record { class = Simple (codes "Runnable"); is_static = false; ordinal = 0 }
 
 -- ---- classes of this form, whose one method, where they have one, is `main`
 
 -- `main` is the first of the static part
 abbrev pub main_site : Name → Site
-main_site class = record { class = class; is_static = true; ordinal = 0 }
+main_site class = record { class = Simple class; is_static = true; ordinal = 0 }
 
 -- the entry points of classes of these names (JLS 12.1.4)
-abbrev pub main_entry : List Name → Name → Name → Option Site
-main_entry [] class method = None
-main_entry (own ∷ names) class method = if same_name class own && same_name method (codes "main") then Some (main_site own) else main_entry names class method
+abbrev pub main_entry : List Name → Name → Name → ℕ → Option Site
+main_entry [] class method count = None
+main_entry (own ∷ names) class method count =
+    if same_name class own && same_name method (codes "main") && (count == 1) then Some (main_site own) else main_entry names class method count
 
 -- ---- threads
 
@@ -82,23 +85,23 @@ turn (Jumps (Exits e) s) = at_end s.answers (End (Result Null))
 
 module _ (program : Program) where
   -- a place in the text of a class
-  abbrev pub place : Bodies → Name → Place
-  place b class = record { bodies = b; touches = program.touches class; resolves = program.resolves; is_error = program.is_error }
+  abbrev pub place : Bodies → ClassName → Place
+  place b class = record { bodies = b; touches = program.touches class; resolves = program.resolves; classes = program.classes }
 
   -- the place before any text, which touches each class that isn't idle
   abbrev pub outside : Bodies → Place
-  outside b = record { bodies = b; touches = λ class. not (program.is_idle class); resolves = program.resolves; is_error = program.is_error }
+  outside b = record { bodies = b; touches = λ class. not (program.is_idle class); resolves = program.resolves; classes = program.classes }
 
-  -- each entry into a body takes one of n (own rule); where no body stands nothing is done
+  -- each entry into a body takes one of n (own rule); a body that isn't there is Torn (own rule)
   abbrev pub enter : Bodies → List Body → Site → List Value → Meaning (Unit {0})
-  enter b [] site vs = pay >> pure tt
+  enter b [] site vs = pay >> torn
   enter b (body ∷ bodies) site vs =
       if same_site body.site site then pay >> (assign_all body.parameters vs >> body.text (place b body.site.class)) else enter b bodies site vs
 
   -- where a class has no initializers nothing is done
-  abbrev pub begin : Bodies → List Initializer → Name → Meaning (Unit {0})
+  abbrev pub begin : Bodies → List Initializer → ClassName → Meaning (Unit {0})
   begin b [] class = pure tt
-  begin b (first ∷ initializers) class = if same_name first.class class then first.text (place b class) else begin b initializers class
+  begin b (first ∷ initializers) class = if same_class first.class class then first.text (place b class) else begin b initializers class
 
   -- the bodies that may stand in one another to the depth d
   abbrev pub bodies : ℕ → Bodies

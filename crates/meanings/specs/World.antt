@@ -1,6 +1,6 @@
 -- The world that threads share, and its answers. It knows nothing of a language.
 use Rattle.std.specs.Prelude.{ℕ, zero, suc, pos, negsuc, Bool, true, false, List, [], ◌∷◌, ◌++◌, length, replicate, Option, Some, None, slice_get, slice_set, slice_index_or, if◌then◌else◌, ◌==◌, codes}
-use Rattle.meanings.specs.Values.{Name, same_name, Field, same_field, Int, Elements, Integers, Booleans, Objects, Arrays, Value, Null, Integer, Boolean, Units, Object, Array, Lambda, same_value, Shape, AnObject, AnArray, AnArrayOf, ALambda, Step, Touch, InitEnd, Alloc, Built, Get, Put, GetStatic, PutStatic, GetElem, PutElem, Enter, Exit, Print, ReadByte, Lib, Raise, Start, Join, End, Torn, Answer, Ready, Run, Mine, Failed, Done, Given, Raised}
+use Rattle.meanings.specs.Values.{Name, ClassName, Simple, same_class, Field, same_field, Int, Elements, Integers, Booleans, Objects, Arrays, Value, Null, Integer, Boolean, Units, Object, Array, Lambda, NoMore, same_value, Shape, AnObject, AnArray, AnArrayOf, ALambda, Step, Touch, InitEnd, Alloc, Built, Get, Put, GetStatic, PutStatic, GetElem, PutElem, Enter, Exit, Print, ReadByte, Lib, Raise, Start, Join, End, Torn, Answer, Ready, Run, Mine, Failed, Done, Given, Raised}
 use Rattle.meanings.specs.Library.{Content, Row, library}
 
 -- the state of a class (JLS 12.4.2); a running initialization has the number of its thread
@@ -25,7 +25,7 @@ pub record World : Type 0 where
   pub heap : List Content
   pub statics : List (Field × Value)
   pub defaults : List (Field × Value)
-  pub classes : List (Name × ClassState)
+  pub classes : List (ClassName × ClassState)
   pub monitors : List (Value × Hold)
   -- the thread with the number k stands at k
   pub threads : List Status
@@ -39,19 +39,19 @@ Reply = Option (World × Answer)
 -- ---- classes
 
 -- the newest state of a class
-abbrev pub state_of : List (Name × ClassState) → Name → ClassState
+abbrev pub state_of : List (ClassName × ClassState) → ClassName → ClassState
 state_of [] class = Untouched
-state_of (e ∷ more) class = if same_name e.0 class then e.1 else state_of more class
+state_of (e ∷ more) class = if same_class e.0 class then e.1 else state_of more class
 
 -- one thread runs the initialization, itself passes, others wait (JLS 12.4.2, steps 1 to 5)
-abbrev pub touch_answer : World → ℕ → Name → ClassState → Reply
+abbrev pub touch_answer : World → ℕ → ClassName → ClassState → Reply
 touch_answer w thread class Untouched = Some (record w { classes = (class, Running thread) ∷ w.classes }, Run)
 touch_answer w thread class (Running owner) = if owner == thread then Some (w, Mine) else None
 touch_answer w thread class IsReady = Some (w, Ready)
 touch_answer w thread class IsFailed = Some (w, Failed)
 
 -- only the thread that runs an initialization ends it (JLS 12.4.2, steps 10 and 12)
-abbrev pub ended_class : List (Name × ClassState) → ℕ → Name → Bool → ClassState → List (Name × ClassState)
+abbrev pub ended_class : List (ClassName × ClassState) → ℕ → ClassName → Bool → ClassState → List (ClassName × ClassState)
 ended_class classes thread class well (Running owner) = if owner == thread then (class, if well then IsReady else IsFailed) ∷ classes else classes
 ended_class classes thread class well Untouched = classes
 ended_class classes thread class well IsReady = classes
@@ -65,7 +65,7 @@ no_content = record { fields = []; elements = [] }
 
 -- the number of a reference
 abbrev pub number_of : Value → Option ℕ
-number_of (Object class k) = Some k
+number_of (Object class k captured) = Some k
 number_of (Array elements size k) = Some k
 number_of (Lambda site k captured) = Some k
 number_of _ = None
@@ -110,17 +110,21 @@ default_element (Arrays elements) = Null
 
 -- what a new object holds (JLS 12.5, 15.10.1, 10.6)
 abbrev pub content_in : Shape → Content
-content_in (AnObject class) = no_content
+content_in (AnObject class captured) = no_content
 content_in (AnArray elements size) = record { fields = []; elements = replicate size (default_element elements) }
 content_in (AnArrayOf elements vs) = record { fields = []; elements = vs }
 content_in (ALambda site captured) = no_content
 
 -- the reference to a new object with this number
 abbrev pub reference : Shape → ℕ → Value
-reference (AnObject class) k = Object class k
+reference (AnObject class captured) k = Object class k captured
 reference (AnArray elements size) k = Array elements size k
 reference (AnArrayOf elements vs) k = Array elements (length vs) k
 reference (ALambda site captured) k = Lambda site k captured
+
+-- an exception of a class of the machine's own, with this number
+abbrev pub exception : Name → ℕ → Value
+exception class k = Object (Simple class) k NoMore
 
 -- the world with one more object, under the next number
 abbrev pub with_object : World → Content → World
@@ -171,7 +175,7 @@ ended_thread (t ∷ threads) (suc k) = t ∷ ended_thread threads k
 
 -- the new thread has the next number; a thread starts once
 abbrev pub start_answer : World → Value → Bool → Reply
-start_answer w v true = Some (with_object w exception_content, Raised (Object (codes "IllegalThreadStateException") (length w.heap)))
+start_answer w v true = Some (with_object w exception_content, Raised (exception (codes "IllegalThreadStateException") (length w.heap)))
 start_answer w v false = Some (record w { threads = w.threads ++ record { object = v; ended = false } ∷ [] }, Done)
 
 -- ---- input, and the library
@@ -205,7 +209,7 @@ answer w thread (Exit v) = Some (exited w thread v (hold_of w.monitors v).owner 
 answer w thread (Print units) = Some (record w { output = w.output ++ units }, Done)
 answer w thread ReadByte = read_answer w w.input
 answer w thread (Lib row vs) = library_answer w vs (slice_get library row)
-answer w thread (Raise class) = Some (with_object w exception_content, Given (Object class (length w.heap)))
+answer w thread (Raise class) = Some (with_object w exception_content, Given (exception class (length w.heap)))
 answer w thread (Start v) = start_answer w v (was_started w.threads v)
 answer w thread (Join v) = if is_running w.threads v then None else Some (w, Done)
 answer w thread (End ending) = Some (record w { threads = ended_thread w.threads thread }, Done)

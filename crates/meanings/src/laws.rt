@@ -3,16 +3,26 @@ ghost use Rattle.std.specs.Prelude.{List};
 ghost use Rattle.meanings.specs.declared.java.JClass.{JClass};
 ghost use Rattle.meanings.specs.declared.java.JFile.{JFile};
 ghost use Rattle.meanings.specs.declared.kotlin.KClass.{KClass};
+ghost use Rattle.meanings.specs.Values.{Name};
 ghost use Rattle.meanings.specs.Convert.{files_of};
 ghost use Rattle.meanings.specs.Java.{java_program};
 ghost use Rattle.meanings.specs.Kotlin.{kotlin_program};
-ghost use Rattle.meanings.specs.SameSteps.{SameSteps};
+ghost use Rattle.meanings.specs.World.{World};
+ghost use Rattle.meanings.specs.Runs.{Thread};
+ghost use Rattle.meanings.specs.SameSteps.{SameSteps, EntriesAreEntered};
+ghost use Rattle.meanings.specs.Same.{SameThreadsOf};
+ghost use Rattle.meanings.specs.Safety.{NeverTornWhereTyped};
 ghost use Rattle.meanings.specs.Laws.{SameIsEqual, SameAtEveryDepth, EqualRuns, MatchingRuns, OnlyStepsChange, ThreadsAgree, OneAnswer, ChangesOnlyWhatItSays, RunsGrow, SpellingIsKept, TypesAreKept};
 ghost use Rattle.meanings.specs.KSpells.{SpellsOne};
 
 /// The Kotlin of a project makes exactly the steps of the project, in every run, and Torn never comes.
 pub fn same_steps()
-    ensures { (files : List JFile) → SameSteps files (files_of files) }
+    ensures { (files : List JFile) (configured : List Name) → SameSteps files configured (files_of files) }
+{}
+
+/// Each entry point is found in both programs, and its thread begins with its text.
+pub fn entries_are_entered()
+    ensures { (files : List JFile) (configured : List Name) → EntriesAreEntered files configured (files_of files) }
 {}
 
 /// A thread is the same with every larger depth, in both languages.
@@ -21,10 +31,34 @@ pub fn same_at_every_depth()
     ensures kotlin { (classes : List KClass) → SameAtEveryDepth (kotlin_program classes) }
 {}
 
-/// Equal threads, under an invariant that each turn keeps, give equal runs for every schedule; so do matching turns from two worlds.
-pub fn equal_runs()
-    ensures equal { EqualRuns }
-    ensures matching { MatchingRuns }
+/// What holds of a world and the threads of a run.
+pub trait Invariant {
+    ghost holds: { World → List Thread → Type 0 };
+}
+
+/// What relates two worlds and the threads of two runs.
+pub trait Relation {
+    ghost relates: { World → World → List Thread → Type 0 };
+}
+
+/// Where the texts of two programs do the same, so do their threads, unless one asks Torn.
+pub fn same_threads()
+    ensures { SameThreadsOf }
+{}
+
+/// Equal threads, under an invariant that each turn keeps, give equal runs for every schedule.
+pub fn equal_runs<I: Invariant>()
+    ensures { EqualRuns I.holds }
+{}
+
+/// Matching turns give equal runs, also from two worlds.
+pub fn matching_runs<R: Relation>()
+    ensures { MatchingRuns R.relates }
+{}
+
+/// No run of a program asks Torn where its texts do what a table of types says of them.
+pub fn never_torn()
+    ensures { NeverTornWhereTyped }
 {}
 
 /// A step has one answer at most, and a turn that is no step, as a blocked one, changes nothing.
@@ -53,7 +87,7 @@ pub fn same_is_equal()
     ensures { SameIsEqual }
 {}
 
-/// The Kotlin of a well typed file is well typed.
+/// The Kotlin of well typed files is well typed.
 pub fn types_are_kept()
     ensures { TypesAreKept }
 {}

@@ -1,12 +1,11 @@
 use Rattle.std.proofs.Common.{◌≡◌, ◌≤◌, IfSome}
-use Rattle.j2k_sources.specs.declared.limits.TheConstants.{MAX_TOTAL_BYTES}
-use Rattle.j2k_sources.specs.Sources.{AreSmall}
+use Rattle.j2k_sources.specs.Sources.{most_bytes, AreSmall}
 use Rattle.j2k_sources.proofs.Loads.{HaveRead}
 use Rattle.j2k_sources.proofs.loading.read_files.Given as goal
 
 abbrev pub invariant-loop-path : goal.invariant-loop-path
 invariant-loop-path g l = record {
-  small : l.sum ≤ MAX_TOTAL_BYTES;
+  small : l.sum ≤ most_bytes;
   each : AreSmall l.files;
   kept : g.D.Disk.held l.disk ≡ g.D.Disk.held l.fn.disk;
   reads : g.D.Disk.reads l.fn.disk ≤ g.D.Disk.reads l.disk;
