@@ -9,8 +9,8 @@ ghost use Rattle.java_unit_printer.specs.Weights.{body_weight, case_weight, catc
 ghost use Rattle.java_unit_printer.specs.Work.{case_tokens, catch_tokens, group_tokens, laid, todo, weight};
 
 use crate::{
-    Work, let_go, open_member, open_statement, push, push_block, push_keyword, push_mark, push_plain,
-    push_text, switch_text, typed_text,
+    Work, let_go, open_member, open_statement, push, push_block, push_keyword, push_mark,
+    push_plain, push_text, switch_text, typed_text,
 };
 use j2k_base::NoMemory;
 use java_expr_printer::Written;

@@ -28,9 +28,7 @@ fn push_constants<'a>(
 {
     match x {
         None => Ok(()),
-        Some(constants) => {
-            push_text(stack, constants_text(alloc, constants)?, bodies)
-        }
+        Some(constants) => { push_text(stack, constants_text(alloc, constants)?, bodies) }
     }
 }
 

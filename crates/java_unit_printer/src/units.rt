@@ -126,11 +126,7 @@ fn lines(alloc: Global, unit: &JUnit) -> Result<Vec<Written>, NoMemory>
 
 /// A unit on the stack.
 #[tactic(auto, using(crate::proofs::Stack::stacks), unfolding(java_unit_grammar::specs::Tokens::unit_tokens))]
-fn push_unit<'a>(
-    alloc: Global,
-    stack: &mut Vec<Work<'a>>,
-    unit: &'a JUnit,
-) -> Result<(), NoMemory>
+fn push_unit<'a>(alloc: Global, stack: &mut Vec<Work<'a>>, unit: &'a JUnit) -> Result<(), NoMemory>
     ensures { IfOk result (λ u. todo stack.new.items ≡ unit_tokens unit.now ++ todo stack.old.items) }
 {
     push(stack, Work::Members(unit.types.as_slice()))?;
