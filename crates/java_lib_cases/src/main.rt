@@ -28,7 +28,7 @@ fn answer(_alloc: Global, word: &str, name: &[u8], out: &mut String) -> Result<(
     match word {
         "class" => put_class(class_row(name), out),
         "simple" => put_class(simple_row(name), out),
-        "members" => put_members(class_row(name), out),
+        "members" => put_members(name, out),
         "word" => put_word(name, out),
         "hard" => put_truth(is_hard_keyword(name), out),
         "reserved" => put_truth(is_reserved_name(name), out),

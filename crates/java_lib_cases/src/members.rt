@@ -2,10 +2,10 @@
 
 use crate::classes::class_name;
 use j2k_base::{Kind, NoMemory};
-use java_lib::{ClassRow, LibKind, Mark, MemberRow, member_rows};
+use java_lib::{LibKind, Mark, MemberRow, class_row, member_rows};
 
-pub fn put_members(class: Option<&ClassRow>, out: &mut String) -> Result<(), NoMemory> {
-    let Some(class) = class else {
+pub fn put_members(name: &[u8], out: &mut String) -> Result<(), NoMemory> {
+    let Some(class) = class_row(name) else {
         return Ok(out.push_str("none")?);
     };
     let rows = member_rows(class.number);

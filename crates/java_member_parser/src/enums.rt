@@ -11,10 +11,10 @@ ghost use Rattle.java_member_parser.specs.Steps.{end_of};
 use crate::begins::{begins_id, comma_name};
 use j2k_base::NoMemory;
 use java_member_grammar::{JArguments, JConstant, JConstants};
-use java_statement_parser::{ArgsFound, ListFound, args_read, at_end, found_or_let_go, let_go};
+use java_statement_parser::{ArgsFound, ListFound, args_read, at_end};
 use java_token_cursor::{Head, Pieces, comma, first};
 use java_tree::{JParam, Mark, Position};
-use java_type_parser::{ident, onward};
+use java_type_parser::{found_or_let_go, ident, let_go, onward};
 use std::alloc::Global;
 
 /// Arguments behind their `(`.

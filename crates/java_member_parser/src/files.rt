@@ -11,10 +11,10 @@ ghost use Rattle.java_member_parser.specs.Steps.{import_at, package_at};
 use crate::begins::star_first;
 use j2k_base::NoMemory;
 use java_member_grammar::{JImport, JPackage};
-use java_statement_parser::{at_end, let_go, semicolon};
+use java_statement_parser::{at_end, semicolon};
 use java_token_cursor::{Head, Pieces, first};
 use java_tree::{JQualified, Keyword, Position};
-use java_type_parser::qualified;
+use java_type_parser::{let_go, qualified};
 use std::alloc::Global;
 
 /// The line of a package with that name, where a `;` is what is left.

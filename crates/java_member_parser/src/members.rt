@@ -13,10 +13,10 @@ use crate::params::type_params;
 use crate::parts::{formals, throws};
 use j2k_base::NoMemory;
 use java_member_grammar::{JMemberHead, JModifier, JResult, JTypeParams};
-use java_statement_parser::{at_end, declaration_of, found_or_let_go, let_go};
+use java_statement_parser::{at_end, declaration_of};
 use java_token_cursor::{Head, Pieces, first};
 use java_tree::{JParam, JType, Keyword, Position};
-use java_type_parser::{ident, read_type};
+use java_type_parser::{found_or_let_go, ident, let_go, read_type};
 use sqlite_items::Items;
 use std::alloc::Global;
 

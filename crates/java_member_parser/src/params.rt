@@ -10,10 +10,10 @@ ghost use Rattle.java_statement_parser.specs.Found.{found, listed_found};
 use crate::begins::closes;
 use j2k_base::NoMemory;
 use java_member_grammar::{JBound, JTypeParam, JTypeParams};
-use java_statement_parser::{ListFound, found_or_let_go, let_go};
+use java_statement_parser::ListFound;
 use java_token_cursor::{Head, Pieces, comma, first};
 use java_tree::{JParam, Keyword, Mark, Position};
-use java_type_parser::{ident, onward, read_type};
+use java_type_parser::{found_or_let_go, ident, let_go, onward, read_type};
 use std::alloc::Global;
 
 /// `extends` and a type, where they come first.

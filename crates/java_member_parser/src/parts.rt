@@ -10,10 +10,10 @@ ghost use Rattle.java_member_parser.specs.Found.{list_found};
 
 use j2k_base::NoMemory;
 use java_member_grammar::{JFormals, JTypeList};
-use java_statement_parser::{ListFound, found_or_let_go, let_go};
+use java_statement_parser::ListFound;
 use java_token_cursor::{Head, Pieces, close, comma, first, open_round};
-use java_tree::{Keyword, Position};
-use java_type_parser::{TypedsFound, onward, read_type, typed_from};
+use java_tree::{JType, Keyword, Position};
+use java_type_parser::{TypedsFound, found_or_let_go, let_go, onward, read_type, typed_from};
 use std::alloc::Global;
 
 /// Formal parameters.

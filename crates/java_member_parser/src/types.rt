@@ -12,10 +12,10 @@ use crate::params::{bound, type_params};
 use crate::parts::{extends_list, implements};
 use j2k_base::NoMemory;
 use java_member_grammar::{JModifier, JTypeHead};
-use java_statement_parser::{at_end, found_or_let_go, let_go};
+use java_statement_parser::at_end;
 use java_token_cursor::{Head, Pieces, first};
 use java_tree::{JParam, Keyword, Position};
-use java_type_parser::ident;
+use java_type_parser::{found_or_let_go, ident, let_go};
 use sqlite_items::Items;
 use std::alloc::Global;
 

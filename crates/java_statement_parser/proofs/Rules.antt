@@ -71,6 +71,6 @@ pub ruleset looks = (declares_square, walks_is)
 
 pub ruleset ends = (whole_end, whole_more, label_end, label_more, value_end, value_more)
 
-pub ruleset locks = (class_is, whole_end, whole_more)
+pub ruleset locks = (class_is)
 
 pub ruleset lists = (length_shown)

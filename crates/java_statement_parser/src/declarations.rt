@@ -9,13 +9,12 @@ ghost use Rattle.java_statement_parser.specs.Found.{found, listed_found, value_a
 
 use crate::begins::final_first;
 use crate::found::ListFound;
-use crate::found_or_let_go;
 use j2k_base::NoMemory;
 use java_exprs::read;
 use java_statement_grammar::{JDeclaration, JDeclarator, JValue};
 use java_token_cursor::{Head, Pieces, comma, first};
 use java_tree::{JParam, JType, Mark, Position};
-use java_type_parser::{ident, onward, read_type};
+use java_type_parser::{found_or_let_go, ident, onward, read_type};
 use std::alloc::Global;
 
 /// The value behind a `=`.

@@ -4,18 +4,18 @@ ghost use Rattle.std.specs.Prelude.{◌≡◌};
 ghost use Rattle.java_token_cursor.specs.Heads.{Finds};
 ghost use Rattle.java_token_cursor.specs.Shown.{shown};
 ghost use Rattle.java_type_parser.specs.Gives.{Gives, Always};
+ghost use Rattle.java_expr_grammar.specs.Reading as r;
 ghost use Rattle.java_statement_grammar.specs.Reading as h;
 ghost use Rattle.java_statement_parser.specs.Found.{class_word, found, same};
 
 use crate::begins::at_end;
-use crate::exits::let_go;
 use crate::parts::whole;
 use j2k_base::NoMemory;
 use java_exprs::read;
 use java_statement_grammar::{JLock, JSwitchLabel};
 use java_token_cursor::{Head, Pieces, colon, dot, first};
 use java_tree::{JQualified, Keyword, Position};
-use java_type_parser::qualified;
+use java_type_parser::{let_go, qualified};
 use std::alloc::Global;
 
 fn class_word<'a>(pieces: Pieces<'a>) -> Option<(Position, Pieces<'a>)>
@@ -27,6 +27,15 @@ fn class_word<'a>(pieces: Pieces<'a>) -> Option<(Position, Pieces<'a>)>
     }
 }
 
+/// The position of `class`, where it is what is left.
+#[tactic(auto, using(crate::proofs::Rules::ends))]
+fn only_class<'a>(pieces: Pieces<'a>) -> Option<Position>
+    ensures { result ≡ r.whole (class_word (shown pieces.now)) }
+{
+    let (at, rest) = class_word(pieces)?;
+    if at_end(rest) { Some(at) } else { None }
+}
+
 /// The class with that name, where a dot and `class` are what is left.
 #[tactic(auto, using(crate::proofs::Rules::locks))]
 fn class_of<'a>(name: JQualified, pieces: Pieces<'a>) -> Option<JLock>
@@ -36,15 +45,12 @@ fn class_of<'a>(name: JQualified, pieces: Pieces<'a>) -> Option<JLock>
         let_go(name);
         return None;
     };
-    let Some((at, rest)) = class_word(rest) else {
-        let_go(name);
-        return None;
-    };
-    if at_end(rest) {
-        Some(JLock::Class(name, dot, at))
-    } else {
-        let_go(name);
-        None
+    match only_class(rest) {
+        Some(at) => Some(JLock::Class(name, dot, at)),
+        None => {
+            let_go(name);
+            None
+        }
     }
 }
 

@@ -3,7 +3,6 @@
 
 mod begins;
 mod declarations;
-mod exits;
 mod found;
 mod heads;
 mod labels;
@@ -13,7 +12,6 @@ mod statements;
 
 pub use begins::{at_end, semicolon};
 pub use declarations::declaration_of;
-pub use exits::let_go;
 pub use found::{ArgsFound, ListFound};
 pub use heads::{for_head, lock, simple, switch_label};
 pub use parts::args_read;

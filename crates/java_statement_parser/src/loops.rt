@@ -10,16 +10,14 @@ ghost use Rattle.java_statement_parser.specs.Basic.{for_first, tests_found, test
 
 use crate::begins::{at_end, begins_declaration, final_first, semicolon, walks};
 use crate::declarations::declaration_of;
-use crate::exits::let_go;
 use crate::found::{ListFound, TestsFound};
-use crate::found_or_let_go;
 use crate::parts::{expressions, unboxed};
 use j2k_base::NoMemory;
 use java_exprs::read;
 use java_statement_grammar::{JForHead, JForStart};
 use java_token_cursor::{Pieces, colon};
 use java_tree::{JExpr, JParam, JType, Position};
-use java_type_parser::{ident, read_type};
+use java_type_parser::{found_or_let_go, ident, let_go, read_type};
 use sqlite_items::Boxed;
 use std::alloc::Global;
 

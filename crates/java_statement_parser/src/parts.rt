@@ -11,14 +11,12 @@ ghost use Rattle.java_statement_grammar.specs.Reading as h;
 ghost use Rattle.java_statement_parser.specs.Found.{args_found, same, listed_found, tree_found};
 
 use crate::begins::{at_end, ends_expressions};
-use crate::exits::let_go;
 use crate::found::{ArgsFound, ListFound};
-use crate::found_or_let_go;
 use j2k_base::NoMemory;
 use java_exprs::{ExprFound, ExprsFound, arguments, read};
 use java_token_cursor::{Pieces, close, comma};
 use java_tree::{JExpr, PrefixOp};
-use java_type_parser::onward;
+use java_type_parser::{found_or_let_go, let_go, onward};
 use sqlite_items::Boxed;
 use std::alloc::Global;
 

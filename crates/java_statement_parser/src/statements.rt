@@ -11,13 +11,13 @@ ghost use Rattle.java_statement_parser.specs.Jumps.{break_read, continue_read};
 
 use crate::begins::{at_end, begins_declaration};
 use crate::declarations::declaration_read;
-use crate::exits::let_go;
 use crate::found::ArgsFound;
 use crate::parts::{args_read, statement_read, unboxed, value_of, whole};
 use j2k_base::{Name, NoMemory};
 use java_statement_grammar::{JLabelName, JSimple};
 use java_token_cursor::{Head, Pieces, copied, first};
 use java_tree::{Keyword, Mark, Position};
+use java_type_parser::let_go;
 use std::alloc::Global;
 
 #[tactic(auto, using(crate::proofs::Rules::ends), unfolding(java_statement_grammar::specs::Reading::expression))]

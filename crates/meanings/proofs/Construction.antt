@@ -1,11 +1,11 @@
 -- Objects and classes: construction, initializers, class initialization and calls do in Kotlin what they do in Java.
-use Rattle.std.proofs.Common.{◌≡◌, ℕ, Bool, true, false, List, [], ◌∷◌, Option, Some, None, refl, if◌then◌else◌, codes}
-use Rattle.meanings.specs.Values.{ClassName, Field, Site, Value, NoMore, AnObject, Alloc, Built, Put, Lib, is_null}
-use Rattle.meanings.specs.Outcome.{Meaning, pure, ◌>>=◌, ◌>>◌, torn, assign}
-use Rattle.meanings.specs.Machine.{Place, ask_value, ask_done, raise, check_null, construct, call, call_on, touch, sequence}
-use Rattle.meanings.specs.Objects.{this_name, self, make, First, Nothing, This, Super, Row, constructs, initialized, constructed, put_own, static_text}
+use Rattle.std.proofs.Common.{ℕ, List, [], ◌∷◌, Option, Some, None, refl}
+use Rattle.meanings.specs.Values.{ClassName, Field, Site, Value, NoMore, AnObject, Alloc, Built, Put, Lib}
+use Rattle.meanings.specs.Outcome.{Meaning, pure}
+use Rattle.meanings.specs.Machine.{Place, sequence}
+use Rattle.meanings.specs.Objects.{this_name, make, First, Nothing, This, Super, Row, constructs, initialized, constructed, put_own, static_text}
 use Rattle.meanings.specs.Same.{no_exits, Kept, Exiting, SameMeaning, SamePlace}
-use Rattle.meanings.proofs.SameLaws.{bind_same, step_same, pure_same, torn_same, ask_value_same, ask_done_same, raise_same, self_same, assign_same, apart_same, construct_same, call_same, call_on_same, touch_same}
+use Rattle.meanings.proofs.SameLaws.{bind_same, step_same, pure_same, ask_value_same, ask_done_same, self_same, assign_same, apart_same, construct_same, touch_same}
 
 -- what constructors do first
 pub data SameFirst {kept : Kept} (x : Exiting kept) : First → First → Type 0 where

@@ -7,7 +7,7 @@ use Rattle.const_fold.specs.Constants.{operated, decided}
 use Rattle.meanings.specs.Values.{Name, ClassName, same_class, Field, Site, same_site, Kind, Value, Null, Integer, Boolean, Units, Class, Companion, Object, Array, Lambda, captured_list, Step, Touch, InitEnd, Get, Put, GetElem, PutElem, Lib, Raise, Torn, Answer, Ready, Run, Mine, Failed, Done, Given, Raised, integer_in, is_true, is_null}
 use Rattle.meanings.specs.Classes.{Classes, is_error}
 use Rattle.meanings.specs.Outcome.{Locals, State, Exit, Jump, Exits, Returns, Throws, Outcome, Asks, Busy, Gives, Jumps, Meaning, then_do, pure, ◌>>=◌, ◌>>◌, jump, ask, ask_from, torn, busy, pay, pay_from, local, assign, assign_all}
-use Rattle.meanings.specs.Machine.{Bodies, Callee, InBody, InText, InRow, Place, received, ask_value, ask_done, raise, returned, apart, call_text, call_in, call_on, text_site, converted, fail, init_end, touched, touch, check_null, get_field, put_field, length_in, index_in, get_element, put_element, print_line, resulted, arithmetic, logic, binary, all, sequence, choose, caught_exit, caught, catch, turns, loop, put_back, scoped, counted, handled, try, is_break, is_continue}
+use Rattle.meanings.specs.Machine.{Bodies, Callee, InBody, InText, InRow, Place, received, ask_value, ask_done, raise, returned, apart, call_text, call_in, call_on, text_site, converted, fail, init_end, touched, touch, check_null, get_field, put_field, length_in, index_in, get_element, put_element, print_line, resulted, arithmetic, logic, binary, all, sequence, choose, caught_exit, caught, catch, turns, loop, put_back, scoped, handled, try, is_break, is_continue}
 use Rattle.meanings.specs.Program.{Body, Initializer, Program, Start, Enters, Runs, turn, place, outside, enter, begin, bodies, thread_from, thread_at, thread, run_site}
 
 -- how many bodies may still be entered from here

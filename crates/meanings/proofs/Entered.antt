@@ -1,5 +1,5 @@
 -- Each entry point is found in both programs, and its thread begins with its text.
-use Rattle.std.proofs.Common.{◌≡◌, ◌⊎◌, inl, inr, ℕ, suc, ◌+◌, Bool, true, false, ◌&&◌, ◌==◌, List, [], ◌∷◌, length, Option, Some, None, if◌then◌else◌, refl, sym, ◌∙◌, ap, subst, arith}
+use Rattle.std.proofs.Common.{◌≡◌, inl, inr, ℕ, suc, ◌+◌, Bool, true, false, ◌&&◌, List, [], ◌∷◌, length, Option, Some, None, if◌then◌else◌, refl, sym, ◌∙◌, ap, subst, arith}
 use Rattle.std.specs.Prelude.{option_map, filter_map, codes}
 use Rattle.std.specs.List.{cons_option}
 use Rattle.meanings.specs.declared.java.JMain.{JMain}
@@ -7,14 +7,14 @@ use Rattle.meanings.specs.declared.java.JClass.{JClass}
 use Rattle.meanings.specs.declared.java.JFile.{JFile}
 use Rattle.meanings.specs.declared.kotlin.KClass.{KClass}
 use Rattle.meanings.specs.Convert.{main_of, classes_of, files_of}
-use Rattle.meanings.specs.Values.{Name, same_name, Simple, Site, same_site, Value, Answer}
-use Rattle.meanings.specs.Outcome.{State, Outcome, Meaning, ◌>>◌, pay, assign_all}
+use Rattle.meanings.specs.Values.{Name, same_name, Site, same_site, Value}
+use Rattle.meanings.specs.Outcome.{Meaning, ◌>>◌, pay, assign_all}
 use Rattle.meanings.specs.Machine.{Bodies, returned}
 use Rattle.meanings.specs.Program.{Program, Body, main_site, main_entry, place, bodies, enter, turn, thread, thread_at, Enters}
 use Rattle.meanings.specs.Java.{java_main, java_method, entry_class, classes_in as java_classes_in, java_program}
-use Rattle.meanings.specs.Kotlin.{kotlin_main, kotlin_method, classes_in as kotlin_classes_in, kotlin_program}
+use Rattle.meanings.specs.Kotlin.{kotlin_main, kotlin_method, kotlin_program}
 use Rattle.meanings.specs.Entries.{Strings, Entry, count_of, site_of}
-use Rattle.meanings.specs.SameSteps.{Entries, AreMains, AreConfigured, renamed, entered, IsOneOf, IsEntered, EntriesAreEntered}
+use Rattle.meanings.specs.SameSteps.{AreMains, AreConfigured, renamed, entered, IsOneOf, IsEntered, EntriesAreEntered}
 use Rattle.meanings.proofs.Headline.{classes_kept, sites_kept}
 use Rattle.meanings.proofs.SameValues.{same_name_true, same_name_self, same_site_self}
 

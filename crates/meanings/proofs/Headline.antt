@@ -8,16 +8,17 @@ use Rattle.meanings.specs.declared.java.JFile.{JFile}
 use Rattle.meanings.specs.declared.kotlin.KMain.{KMain}
 use Rattle.meanings.specs.declared.kotlin.KClass.{KClass}
 use Rattle.meanings.specs.Convert.{main_of, class_of, classes_of, files_of}
-use Rattle.meanings.specs.Values.{Name, same_name, Site, same_site, Value, Units, Answer}
+use Rattle.meanings.specs.Values.{Name, same_name, Site, same_site, Value, Answer}
 use Rattle.meanings.specs.Program.{Body, main_site, main_entry, Start}
 use Rattle.meanings.specs.World.{World}
 use Rattle.meanings.specs.Runs.{Thread, run, NeverTorn}
 use Rattle.meanings.specs.Java.{java_main, java_method, entry_class as java_entry_class, classes_in as java_classes_in, java_program, JavaThread}
 use Rattle.meanings.specs.Kotlin.{entry_class as kotlin_entry_class, classes_in as kotlin_classes_in, kotlin_program, KotlinThread}
-use Rattle.meanings.specs.Entries.{Takes, Strings, Entry, Input, count_of, passed, first_world, first_threads, run_of}
-use Rattle.meanings.specs.SameSteps.{SameSteps, Entries, AreMains, AreConfigured, IsNamed}
+use Rattle.meanings.specs.Entries.{Takes, Strings, Entry, Input, count_of, AllStrings, Fits, passed, first_world, first_threads, run_of}
+use Rattle.meanings.specs.SameSteps.{SameSteps, Entries, AreMains, AreConfigured}
 use Rattle.meanings.proofs.RunLaws.{AllStarts}
-use Rattle.meanings.proofs.Starts.{starts_never_torn, starts_same}
+use Rattle.meanings.proofs.Starts.{starts_same}
+use Rattle.meanings.proofs.KotlinSafe.{kotlin_never_torn}
 use Rattle.meanings.proofs.SameText.{AllGiven, stands, IsGiven, CalmTurn, thread_same, thread_calm}
 use Rattle.meanings.proofs.SameValues.{same_site_self}
 
@@ -28,9 +29,6 @@ kotlin_calm classes start given answers n = rw (thread_same classes start given 
 
 run_of_project : (classes : List JClass) (n : ℕ) (w : World) (ts : List Thread) → AllStarts (IsGiven classes) ts → (schedule : List ℕ) → run (KotlinThread (classes_of classes)) n w ts schedule ≡ run (JavaThread classes) n w ts schedule
 run_of_project classes n = starts_same (IsGiven classes) (KotlinThread (classes_of classes)) (kotlin_calm classes) n (JavaThread classes) (λ start given answers. thread_same classes start given answers n)
-
-never_torn_of_project : (classes : List JClass) (n : ℕ) (w : World) (ts : List Thread) → AllStarts (IsGiven classes) ts → (schedule : List ℕ) → NeverTorn (run (KotlinThread (classes_of classes)) n w ts schedule)
-never_torn_of_project classes n = starts_never_torn (IsGiven classes) (KotlinThread (classes_of classes)) (kotlin_calm classes) n
 
 -- ---- the first thread
 
@@ -118,10 +116,15 @@ module _ (classes : List JClass) (entry : Entry) (main : IsMain entry) (input : 
       ap (λ (ts : List Thread). run (KotlinThread (classes_of classes)) n (first_world (java_program classes) entry.takes input) ts schedule) threads_kept
       ∙ run_of_project classes n (first_world (java_program classes) entry.takes input) _ begins schedule
 
-  classes_never_torn : NeverTorn (run_of (kotlin_program (classes_of classes)) entry input schedule n)
-  classes_never_torn =
-      subst (λ (ts : List Thread). NeverTorn (run (KotlinThread (classes_of classes)) n (first_world (java_program classes) entry.takes input) ts schedule)) (sym threads_kept)
-      (never_torn_of_project classes n (first_world (java_program classes) entry.takes input) _ begins schedule)
+  classes_never_torn : AllStrings input.arguments → NeverTorn (run_of (kotlin_program (classes_of classes)) entry input schedule n)
+  classes_never_torn strings =
+      subst (λ (ts : List Thread). NeverTorn (run (KotlinThread (classes_of classes)) n (first_world (kotlin_program (classes_of classes)) entry.takes input) ts schedule)) (sym threads_kept)
+      (subst (λ (takes : Takes). NeverTorn (run (KotlinThread (classes_of classes)) n (first_world (kotlin_program (classes_of classes)) takes input) (first_threads (main_entry (filter_map java_entry_class classes) entry.class entry.method (count_of takes)) (passed takes input.arguments)) schedule)) (sym main)
+      (kotlin_never_torn classes input strings entry.class entry.method 1 n schedule))
+
+-- the arguments of a `main` are Strings
+fits_main : (takes : Takes) (vs : List Value) → takes ≡ Strings → Fits takes vs → AllStrings vs
+fits_main takes vs is fits = subst (λ (takes : Takes). Fits takes vs) is fits
 
 -- the headline's theorem, for every project of the form
 pub same_steps : (files : List JFile) (configured : List Name) → SameSteps files configured (files_of files)
@@ -130,5 +133,5 @@ same_steps files configured = record {
       ap (λ (classes : List KClass). run_of (kotlin_program classes) entry input schedule n) (classes_kept files) ∙ classes_same (java_classes_in files) entry (entries_are_main files configured entry is) input schedule n;
   never_torn = λ entry is input fits schedule n.
       subst (λ (classes : List KClass). NeverTorn (run_of (kotlin_program classes) entry input schedule n)) (sym (classes_kept files))
-      (classes_never_torn (java_classes_in files) entry (entries_are_main files configured entry is) input schedule n);
+      (classes_never_torn (java_classes_in files) entry (entries_are_main files configured entry is) input schedule n (fits_main entry.takes input.arguments (entries_are_main files configured entry is) fits));
 }

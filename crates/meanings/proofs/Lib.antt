@@ -10,6 +10,16 @@ pub mod Entered
 pub mod SameLaws
 pub mod Construction
 pub mod SamePrograms
+pub mod Lists
+pub mod KnownLaws
+pub mod SafeLaws
+pub mod WorldLaws
+pub mod SafeSteps
+pub mod SafeBodies
+pub mod SafePlaces
+pub mod SafePrograms
+pub mod Schedules
+pub mod KotlinSafe
 pub mod Depth
 pub mod FormDepth
 pub mod SameValues

@@ -1,15 +1,14 @@
 -- Laws of `Same`: what the languages share keeps it.
-use Rattle.std.proofs.Common.{◌≡◌, ℕ, zero, suc, ℤ, pos, negsuc, Bool, true, false, List, [], ◌∷◌, map, Option, Some, None, refl, sym, ap, ◌∙◌, subst, if◌then◌else◌, ◌==◌, ◌&&◌, ◌⊎◌, inl, inr, arith, codes}
-use Rattle.std.proofs.lemmas.Bool.{eq-eqb, ne_eqb}
-use Rattle.meanings.specs.Values.{Name, same_name, ClassName, Field, Site, Kind, Value, Null, Integer, Boolean, Units, Class, Companion, Object, Array, Lambda, captured_list, Step, Touch, InitEnd, Alloc, Built, Get, Put, GetStatic, PutStatic, Enter, Exit as ExitStep, Print, Lib, Raise, Answer, Ready, Run, Mine, Failed, Done, Given, Raised, Torn, is_true, is_null, integer_in, text_of}
-use Rattle.meanings.specs.Outcome.{Locals, get, State, Exit, Break, Continue, Jump, Exits, Returns, Throws, Outcome, Asks, Busy, Gives, Jumps, Meaning, then_do, pure, ◌>>=◌, ◌>>◌, jump, ask, ask_from, torn as torn_here, busy as busy_here, pay, pay_from, local, assign}
+use Rattle.std.proofs.Common.{◌≡◌, ℕ, zero, suc, Bool, true, false, List, [], ◌∷◌, Option, Some, None, refl, sym, ap, ◌∙◌, subst, if◌then◌else◌, ◌&&◌, ◌⊎◌, inl, inr, arith, codes}
+use Rattle.meanings.specs.Values.{Name, same_name, ClassName, Field, Site, Kind, Value, Null, Integer, Boolean, Units, Class, Companion, Object, Array, Lambda, captured_list, Step, Touch, InitEnd, Get, Put, Lib, Raise, Answer, Ready, Run, Mine, Failed, Done, Given, Raised, is_true, is_null, integer_in, text_of}
+use Rattle.meanings.specs.Outcome.{Locals, get, State, Exit, Exits, Returns, Throws, Outcome, Gives, Meaning, then_do, pure, ◌>>=◌, ◌>>◌, jump, ask, ask_from, torn as torn_here, busy as busy_here, pay, pay_from, local, assign}
 use Rattle.j2k_base.specs.declared.constants.Op2.{Op2}
 use Rattle.j2k_base.specs.declared.constants.Const.{Const}
 use Rattle.const_fold.specs.Constants.{operated, decided}
 use Rattle.meanings.specs.Classes.{Classes, is_a, is_error}
-use Rattle.meanings.specs.Machine.{Bodies, Callee, InBody, InText, InRow, Place, received, ask_value, ask_done, raise, returned, apart, call, construct, call_lambda, call_text, call_in, call_on, text_site, converted, print_line, resulted, arithmetic, logic, binary, fail, init_end, initialize, touched, touch, get_static, put_static, check_null, get_field, put_field, all, sequence, choose, caught_exit, caught, catch, turns, loop, put_back, scoped, handled, try, is_break, is_continue}
-use Rattle.meanings.specs.Objects.{this_name, self, concat, after_all, finally, Handler, handler_of, monitor}
-use Rattle.meanings.specs.Same.{no_exits, is_fresh, fresh, Alike, Kept, Keeps, Exiting, both, Stand, Same, asks, busy, gives, exits, returns, throws, torn, unreached, SameMeaning, AllSame, none, more, SameBodies, SamePlace}
+use Rattle.meanings.specs.Machine.{Callee, InBody, InText, InRow, Place, received, ask_value, ask_done, raise, returned, apart, call, construct, call_text, call_in, call_on, text_site, converted, print_line, resulted, arithmetic, logic, binary, fail, init_end, initialize, touched, touch, check_null, get_field, put_field, all, sequence, choose, caught_exit, caught, catch, put_back, scoped, handled, try}
+use Rattle.meanings.specs.Objects.{this_name, self, concat, after_all, finally, Handler, handler_of}
+use Rattle.meanings.specs.Same.{no_exits, is_fresh, fresh, Alike, Kept, Keeps, Exiting, both, Stand, Same, asks, busy, gives, exits, returns, throws, torn, unreached, SameMeaning, AllSame, none, more, SamePlace}
 use Rattle.meanings.proofs.SameValues.{same_name_true, same_name_self}
 
 -- ---- names

@@ -1,10 +1,10 @@
 -- One thread: where the texts of two programs do the same, so do their threads, unless Torn is asked.
 use Rattle.std.proofs.Common.{◌≡◌, ◌≢◌, ℕ, zero, suc, ◌+◌, Bool, true, false, not, List, [], ◌∷◌, ◌++◌, length, refl, sym, ap, subst, if◌then◌else◌}
-use Rattle.meanings.specs.Values.{Name, ClassName, same_class, Site, same_site, Value, Null, Boolean, Integer, Units, Class, Companion, Object, Array, Lambda, Step, Torn, End, Result, Uncaught, Answer}
-use Rattle.meanings.specs.Outcome.{Outcome, Meaning, ◌>>◌, pure, pay, assign_all}
-use Rattle.meanings.specs.Machine.{Bodies, Place, apart}
-use Rattle.meanings.specs.Program.{Program, Body, Initializer, Start, Enters, Runs, Turn, Next, at_end, turn, place, outside, enter, begin, bodies, thread_from, thread, run_site}
-use Rattle.meanings.specs.Same.{no_exits, Kept, Exiting, Same, asks, busy, gives, exits, returns, throws, torn, unreached, SameMeaning, SameBodies, SamePlace, none_kept, AllOld, SameText, SameBody, SameTexts, no_texts, a_text, SameInitializers, no_initializers, an_initializer, SameProgram, SameThreadsOf}
+use Rattle.meanings.specs.Values.{Name, ClassName, same_class, Site, same_site, Value, Null, Boolean, Integer, Units, Class, Companion, Object, Array, Lambda, Torn, End, Result, Uncaught, Answer}
+use Rattle.meanings.specs.Outcome.{Outcome, Meaning, ◌>>◌, pay, assign_all}
+use Rattle.meanings.specs.Machine.{Bodies, apart}
+use Rattle.meanings.specs.Program.{Program, Body, Initializer, Start, Enters, Runs, Next, at_end, turn, place, outside, enter, begin, bodies, thread_from, thread, run_site}
+use Rattle.meanings.specs.Same.{no_exits, Kept, Exiting, Same, asks, busy, gives, exits, returns, throws, torn, unreached, SameMeaning, SameBodies, SamePlace, none_kept, AllOld, SameBody, SameTexts, no_texts, a_text, SameInitializers, no_initializers, an_initializer, SameProgram, SameThreadsOf}
 use Rattle.meanings.proofs.SameLaws.{no_stand, step_same, pure_same, pay_same, busy_same, torn_same, assign_same, apart_same, touch_same, call_same, call_on_same}
 
 assign_all_same : {kept : Kept} {x : Exiting kept} (ys : List Name) (vs : List Value) → AllOld ys → SameMeaning kept x (assign_all ys vs) (assign_all ys vs)

@@ -15,7 +15,7 @@ use Rattle.meanings.specs.declared.operators.Operator.{Operator}
 use Rattle.meanings.specs.declared.operators.Operator.TheVariants.{Plus, Minus, Times}
 use Rattle.j2k_base.specs.declared.constants.Const.{Const}
 use Rattle.const_fold.specs.Constants.{operated}
-use Rattle.meanings.specs.Values.{Name, same_name, Simple, Site, same_site, Kind, Value, Null, Integer, Boolean, Units, Class, Companion, Object, Array, Lambda, Int, Step, Torn, Print as PrintStep, Start as StartStep, Answer, Ready, Run, Mine, Failed, Done, Given, Raised, is_null, integer_in, text_of}
+use Rattle.meanings.specs.Values.{Name, same_name, Simple, Site, same_site, Kind, Value, Null, Integer, Boolean, Units, Class, Companion, Object, Array, Lambda, Int, Step, Print as PrintStep, Start as StartStep, Answer, Ready, Run, Mine, Failed, Done, Given, Raised, is_null, integer_in, text_of}
 use Rattle.meanings.specs.Operators.{operation}
 use Rattle.meanings.specs.Outcome.{Locals, get, State, Exits, Returns, Throws, Outcome, Asks, Busy, Gives, Jumps, Meaning, then_do, pure, torn, ◌>>◌, ask_from, pay_from, assign_all}
 use Rattle.meanings.specs.Machine.{Bodies, Place, valued, arithmetic, received, ask_done, print_line, returned, sequence}
@@ -53,17 +53,19 @@ abbrev pub AllGiven : List Value → Type 0
 AllGiven [] = Unit {0}
 AllGiven (v ∷ vs) = (is_plain v ≡ true) × AllGiven vs
 
+-- whatever name is read
 abbrev pub LocalsGiven : Locals → Type 0
-LocalsGiven [] = Unit {0}
-LocalsGiven (b ∷ locals) = (is_plain b.1 ≡ true) × LocalsGiven locals
+LocalsGiven locals = (name : Name) → is_plain (get locals name) ≡ true
 
 if_given : (b : Bool) (v w : Value) → is_plain v ≡ true → is_plain w ≡ true → is_plain (if b then v else w) ≡ true
 if_given true v w h g = h
 if_given false v w h g = g
 
-get_given : (locals : Locals) (name : Name) → LocalsGiven locals → is_plain (get locals name) ≡ true
-get_given [] name h = refl
-get_given (b ∷ locals) name h = if_given (same_name b.0 name) b.1 (get locals name) h.0 (get_given locals name h.1)
+pub more_given : (x : Name) (v : Value) (locals : Locals) → is_plain v ≡ true → LocalsGiven locals → LocalsGiven ((x, v) ∷ locals)
+more_given x v locals h g name = if_given (same_name x name) v (get locals name) h (g name)
+
+pub none_given : LocalsGiven []
+none_given name = refl
 
 -- ---- expressions make no step and give a value
 
@@ -91,16 +93,16 @@ value_by locals (JExpr-F.Number n) = Integer Int (pos n)
 value_by locals (JExpr-F.Paren v) = v
 value_by locals (JExpr-F.Binary v operator w) = operates operator v w
 
-value : Locals → JExpr → Value
+pub value : Locals → JExpr → Value
 value locals = fold-JExpr Value (value_by locals)
 
 value_at : (locals : Locals) (x : JExpr-F JExpr) → value locals (roll-JExpr x) ≡ value_by locals (map-JExpr JExpr Value (value locals) x)
 unfolding value
 value_at locals x = fold-roll-JExpr Value (value_by locals) x
 
-value_given : (locals : Locals) → LocalsGiven locals → (e : JExpr) → is_plain (value locals e) ≡ true
+pub value_given : (locals : Locals) → LocalsGiven locals → (e : JExpr) → is_plain (value locals e) ≡ true
 value_given locals h = java_induct (λ e. is_plain (value locals e) ≡ true) (record {
-  local = λ name. rw (value_at locals (JExpr-F.Local name)) (get_given locals name h);
+  local = λ name. rw (value_at locals (JExpr-F.Local name)) (h name);
   number = λ n. rw (value_at locals (JExpr-F.Number n)) refl;
   paren = λ e given. rw (value_at locals (JExpr-F.Paren e)) given;
   binary = λ a operator b left right. rw (value_at locals (JExpr-F.Binary a operator b)) (operates_plain operator (value locals a) (value locals b));
@@ -132,11 +134,11 @@ operator_is_int (Some type) = refl
 operates_as : (kind : Kind) → kind ≡ Int → (operator : Operator) (v w : Value) (s : State) → arithmetic (operation operator) kind kind v w s ≡ Gives (operates operator v w) s
 operates_as kind is operator v w s = ap (λ (k : Kind). arithmetic (operation operator) k k v w s) is ∙ operates_is operator v w s
 
-kotlin_expr_is : (p : Place) (e : JExpr) (static : Static) (s : State) → LocalsGiven s.locals → kotlin_expr (expression_of e) static p s ≡ Gives (value s.locals e) s
+pub kotlin_expr_is : (p : Place) (e : JExpr) (static : Static) (s : State) → LocalsGiven s.locals → kotlin_expr (expression_of e) static p s ≡ Gives (value s.locals e) s
 kotlin_expr_is p = java_induct (λ e. (static : Static) (s : State) → LocalsGiven s.locals → kotlin_expr (expression_of e) static p s ≡ Gives (value s.locals e) s) (record {
   local = λ name static s h.
       rw (convert_at (JExpr-F.Local name), kotlin_at (KExpr-F.Local name), value_at s.locals (JExpr-F.Local name))
-      (used_is (declared static name) (get s.locals name) s (plain_not_null _ (get_given s.locals name h)));
+      (used_is (declared static name) (get s.locals name) s (plain_not_null _ (h name)));
   number = λ n static s h. rw (convert_at (JExpr-F.Number n), kotlin_at (KExpr-F.Number n), value_at s.locals (JExpr-F.Number n)) refl;
   paren = λ e is static s h. rw (convert_at (JExpr-F.Paren e), kotlin_at (KExpr-F.Paren (expression_of e)), value_at s.locals (JExpr-F.Paren e)) (is static s h);
   binary = λ a operator b left right static s h.
@@ -175,10 +177,10 @@ asked_keeps p s [] h = tt
 asked_keeps p s (a ∷ xs) h = received_keeps a (record s { answers = xs }) h
 
 -- the text of a plain value is printed
-prints : Value → Meaning (Unit {0})
+unfoldable pub prints : Value → Meaning (Unit {0})
 prints v = ask_done (PrintStep (text_of v ++ 10 ∷ []))
 
-print_line_is : (p : Place) (v : Value) (s : State) → is_plain v ≡ true → print_line p v s ≡ prints v s
+pub print_line_is : (p : Place) (v : Value) (s : State) → is_plain v ≡ true → print_line p v s ≡ prints v s
 unfolding prints
 print_line_is p Null s h = cc
 print_line_is p (Object class k captured) s h = cc
@@ -207,16 +209,15 @@ pub text_same : (p q : Place) (body : List JStmt) (static : Static) (s : State) 
 text_same p q [] static s h = refl
 text_same p q (Local name e ∷ more) static s h =
     rw (kotlin_expr_is p e static s h, java_expr_is q e s)
-    (text_same p q more (extended static (statement_of (Local name e))) (record s { locals = (name, value s.locals e) ∷ s.locals }) (value_given s.locals h e, h))
+    (text_same p q more (extended static (statement_of (Local name e))) (record s { locals = (name, value s.locals e) ∷ s.locals }) (more_given name (value s.locals e) s.locals (value_given s.locals h e) h))
 text_same p q (Print e ∷ more) static s h =
     rw (kotlin_expr_is p e static s h, java_expr_is q e s)
     (printed_same p q (value s.locals e) (kotlin_stmts (map statement_of more) static p) (sequence (map (java_stmt q) more)) s (value_given s.locals h e) h
     (λ t given. text_same p q more static t given))
 
--- ---- the steps of a text start no thread and are no Torn
+-- ---- the steps of a text start no thread
 
 abbrev pub is_calm : Step → Bool
-is_calm Torn = false
 is_calm (StartStep v) = false
 is_calm _ = true
 
@@ -256,7 +257,7 @@ printed_calm q v g s plain h calm =
 
 text_calm : (q : Place) (body : List JStmt) (s : State) → LocalsGiven s.locals → CalmOutcome (sequence (map (java_stmt q) body) s)
 text_calm q [] s h = tt
-text_calm q (Local name e ∷ more) s h = rw (java_expr_is q e s) (text_calm q more (record s { locals = (name, value s.locals e) ∷ s.locals }) (value_given s.locals h e, h))
+text_calm q (Local name e ∷ more) s h = rw (java_expr_is q e s) (text_calm q more (record s { locals = (name, value s.locals e) ∷ s.locals }) (more_given name (value s.locals e) s.locals (value_given s.locals h e) h))
 text_calm q (Print e ∷ more) s h = rw (java_expr_is q e s) (printed_calm q (value s.locals e) (sequence (map (java_stmt q) more)) s (value_given s.locals h e) h (λ t given. text_calm q more t given))
 
 -- ---- bodies
@@ -276,7 +277,7 @@ module _ (class : Name) (parameter : Name) (body : List JStmt) (p q : Place) whe
   entered_same : (vs : List Value) → AllGiven vs → (s : State) → LocalsGiven s.locals →
       then_do (assign_all (parameter ∷ []) vs s) (λ a. kotlin_text) ≡ then_do (assign_all (parameter ∷ []) vs s) (λ a. java_text)
   entered_same [] given s h = text_same p q body (main_static class parameter) s h
-  entered_same (v ∷ vs) given s h = text_same p q body (main_static class parameter) (record s { locals = (parameter, v) ∷ s.locals }) (given.0, h)
+  entered_same (v ∷ vs) given s h = text_same p q body (main_static class parameter) (record s { locals = (parameter, v) ∷ s.locals }) (more_given parameter v s.locals given.0 h)
 
   paid_same : (vs : List Value) → AllGiven vs → (s : State) → LocalsGiven s.locals → (n : ℕ) →
       then_do (pay_from s n) (λ a. assign_all (parameter ∷ []) vs >> kotlin_text) ≡ then_do (pay_from s n) (λ a. assign_all (parameter ∷ []) vs >> java_text)
@@ -285,7 +286,7 @@ module _ (class : Name) (parameter : Name) (body : List JStmt) (p q : Place) whe
 
   entered_calm : (vs : List Value) → AllGiven vs → (s : State) → LocalsGiven s.locals → CalmOutcome (then_do (assign_all (parameter ∷ []) vs s) (λ a. java_text))
   entered_calm [] given s h = text_calm q body s h
-  entered_calm (v ∷ vs) given s h = text_calm q body (record s { locals = (parameter, v) ∷ s.locals }) (given.0, h)
+  entered_calm (v ∷ vs) given s h = text_calm q body (record s { locals = (parameter, v) ∷ s.locals }) (more_given parameter v s.locals given.0 h)
 
   paid_calm : (vs : List Value) → AllGiven vs → (s : State) → LocalsGiven s.locals → (n : ℕ) → CalmOutcome (then_do (pay_from s n) (λ a. assign_all (parameter ∷ []) vs >> java_text))
   paid_calm vs given s h zero = tt
@@ -376,11 +377,11 @@ module _ (classes : List JClass) where
   method_calm (suc d) site vs given there s h = calm_among java (bodies java d) classes site vs given s h there
 
   from_same : (d : ℕ) (start : Start) → IsGiven start → (s : State) → thread_from kotlin (bodies kotlin d) start s ≡ thread_from java (bodies java d) start s
-  from_same d (Enters site vs) given s = ap (returned s.locals) (method_same d site vs given.1 (record s { locals = [] }) tt)
+  from_same d (Enters site vs) given s = ap (returned s.locals) (method_same d site vs given.1 (record s { locals = [] }) none_given)
   from_same d (Runs object) given s = absurd given
 
   from_calm : (d : ℕ) (start : Start) → IsGiven start → (s : State) → CalmOutcome (thread_from java (bodies java d) start s)
-  from_calm d (Enters site vs) given s = returned_calm s _ (method_calm d site vs given.1 given.0 (record s { locals = [] }) tt)
+  from_calm d (Enters site vs) given s = returned_calm s _ (method_calm d site vs given.1 given.0 (record s { locals = [] }) none_given)
   from_calm d (Runs object) given s = absurd given
 
   pub thread_same : (start : Start) → IsGiven start → (answers : List Answer) (n : ℕ) → KotlinThread (classes_of classes) start answers n ≡ JavaThread classes start answers n

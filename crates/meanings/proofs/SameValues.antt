@@ -2,9 +2,9 @@
 use Rattle.std.proofs.Common.{◌≡◌, ℕ, ℤ, pos, negsuc, Bool, true, false, ◌&&◌, ◌==◌, [], ◌∷◌, refl, ap, ◌∙◌, subst}
 use Rattle.std.proofs.lemmas.Bool.{eq-eqb, eqb-true}
 use Rattle.meanings.specs.Laws.{SameIsEqual}
-use Rattle.meanings.specs.Values.{Name, same_name, same_flag, ClassName, Simple, Anonymous, same_class, Site, same_site, Kind, Byte, Short, Char, Int, Long, kind_number, same_integer, Elements, Integers, Booleans, Objects, Arrays, same_elements, Value, Null, Integer, Boolean, Units, Class, Companion, Object, Array, Lambda, Captured, NoMore, Capture, same_value, same_captured}
+use Rattle.meanings.specs.Values.{Name, same_name, same_flag, ClassName, Simple, Anonymous, same_class, Field, same_field, Site, same_site, Kind, Byte, Short, Char, Int, Long, kind_number, same_integer, Elements, Integers, Booleans, Objects, Arrays, same_elements, Value, Null, Integer, Boolean, Units, Class, Companion, Object, Array, Lambda, Captured, NoMore, Capture, same_value, same_captured}
 
-both : (a b : Bool) → (a && b) ≡ true → (a ≡ true) × (b ≡ true)
+pub both : (a b : Bool) → (a && b) ≡ true → (a ≡ true) × (b ≡ true)
 both true true e = (refl, refl)
 both true false e = cc
 both false b e = cc
@@ -83,6 +83,19 @@ same_site_true a b e =
 
 pub same_site_self : (a : Site) → same_site a a ≡ true
 same_site_self a = and_true _ _ (and_true _ _ (same_class_self a.class) (same_flag_self a.is_static)) (eq-eqb a.ordinal a.ordinal refl)
+
+abbrev field : ClassName → Name → Field
+field class name = record { class = class; name = name }
+
+pub same_field_true : (f g : Field) → same_field f g ≡ true → f ≡ g
+same_field_true f g e =
+    let h : (same_class f.class g.class ≡ true) × (same_name f.name g.name ≡ true) = both _ _ e in
+    let class : f.class ≡ g.class = same_class_true f.class g.class h.0 in
+    let name : f.name ≡ g.name = same_name_true f.name g.name h.1 in
+    ap (λ (x : ClassName). field x f.name) class ∙ ap (λ (x : Name). field g.class x) name
+
+pub same_field_self : (f : Field) → same_field f f ≡ true
+same_field_self f = and_true _ _ (same_class_self f.class) (same_name_self f.name)
 
 same_elements_true : (e f : Elements) → same_elements e f ≡ true → e ≡ f
 same_elements_true (Integers k) (Integers l) h = ap Integers (same_kind_true k l h)

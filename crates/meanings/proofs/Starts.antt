@@ -1,12 +1,12 @@
--- Runs in which each thread started well: its steps start no other thread and are no Torn.
-use Rattle.std.proofs.Common.{◌≡◌, ◌≢◌, ℕ, zero, suc, true, List, [], ◌∷◌, ◌++◌, Option, Some, None, slice_get, slice_set, refl, subst}
-use Rattle.meanings.specs.Values.{Value, Step, Touch, InitEnd, Alloc, Built, Get, Put, GetStatic, PutStatic, GetElem, PutElem, Enter, Exit, Print, ReadByte, Lib, Raise, Start as StartStep, Join, End, Torn, Answer}
+-- Runs in which each thread started well: its steps start no other thread.
+use Rattle.std.proofs.Common.{◌≡◌, ℕ, zero, suc, true, List, [], ◌∷◌, Option, Some, None, slice_get, slice_set, refl, subst}
+use Rattle.meanings.specs.Values.{Step, Touch, InitEnd, Alloc, Built, Get, Put, GetStatic, PutStatic, GetElem, PutElem, Enter, Exit, Print, ReadByte, Lib, Raise, Start as StartStep, Join, End, Torn, Answer}
 use Rattle.meanings.specs.Program.{Turn, Next, IsBusy, Ended, Start}
 use Rattle.meanings.specs.World.{World, Reply, answer}
-use Rattle.meanings.specs.Runs.{Thread, Behavior, with_new, replied, turned, turn_of, run, NeverTorn}
+use Rattle.meanings.specs.Runs.{Thread, Behavior, with_new, replied, turned, turn_of, run}
 use Rattle.meanings.specs.Laws.{IsKept}
 use Rattle.meanings.proofs.SameText.{is_calm, CalmTurn}
-use Rattle.meanings.proofs.RunLaws.{AllStarts, run_same, run_never_torn}
+use Rattle.meanings.proofs.RunLaws.{AllStarts, run_same}
 
 module _ (P : Start → Type 0) where
   start_at : (ts : List Thread) → AllStarts P ts → (i : ℕ) (t : Thread) → slice_get ts i ≡ Some t → P t.start
@@ -50,14 +50,6 @@ module _ (P : Start → Type 0) where
   turned_starts w ts i t IsBusy calm h g = h
   turned_starts w ts i t Ended calm h g = h
 
-  not_torn : (r : Turn) → CalmTurn r → r ≢ Next Torn
-  not_torn (Next p) calm = λ e. let same : p ≡ Torn = cc in absurd (torn_not_calm p same calm)
-    where
-      torn_not_calm : (p : Step) → p ≡ Torn → is_calm p ≡ true → ⊥
-      torn_not_calm p same calm = let bad : is_calm Torn ≡ true = subst (λ q. is_calm q ≡ true) same calm in cc
-  not_torn IsBusy calm = λ e. cc
-  not_torn Ended calm = λ e. cc
-
   module _ (next : Behavior) (calm : (start : Start) → P start → (answers : List Answer) (n : ℕ) → CalmTurn (next start answers n)) (n : ℕ) where
     turn_starts : (w : World) (ts : List Thread) (i : ℕ) (o : Option Thread) → slice_get ts i ≡ o → AllStarts P ts → AllStarts P (turn_of next n w ts i o).threads
     turn_starts w ts i None is h = h
@@ -65,10 +57,6 @@ module _ (P : Start → Type 0) where
 
     starts_kept : IsKept next n (λ w ts. AllStarts P ts)
     starts_kept = record { kept = λ w ts i h. turn_starts w ts i (slice_get ts i) refl h }
-
-    -- Torn never comes
-    pub starts_never_torn : (w : World) (ts : List Thread) → AllStarts P ts → (schedule : List ℕ) → NeverTorn (run next n w ts schedule)
-    starts_never_torn = run_never_torn next n (λ w ts. AllStarts P ts) (λ w ts h i t is. not_torn _ (calm t.start (start_at ts h i t is) t.had n)) starts_kept
 
     -- another behaviour that does the same from such starts has the same runs
     pub starts_same : (other : Behavior) → ((start : Start) → P start → (answers : List Answer) → next start answers n ≡ other start answers n) →

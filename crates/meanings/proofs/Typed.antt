@@ -11,10 +11,10 @@ use Rattle.meanings.specs.declared.java.JStmt.{JStmt}
 use Rattle.meanings.specs.declared.java.JStmt.TheVariants.{Local, Print}
 use Rattle.meanings.specs.declared.java.JMain.{JMain}
 use Rattle.meanings.specs.declared.java.JClass.{JClass}
-use Rattle.meanings.specs.Convert.{expression_of, statement_of, main_of, class_of, files_of, file_of}
+use Rattle.meanings.specs.Convert.{expression_of, statement_of, main_of, class_of, file_of, files_of}
 use Rattle.meanings.specs.Values.{Name, same_name, is_among, Differ}
-use Rattle.meanings.specs.Static.{KType, IntType, Static, declared, declared_local, past, with_local, type_of, IsTyped, MainHasTypes, ClassHasTypes, AllHaveTypes, class_names, main_static}
-use Rattle.meanings.specs.JTyped.{known_by, Knows, AreTyped, MainIsTyped, ClassIsTyped, AllAreTyped, class_names as java_class_names, IsTypedFile}
+use Rattle.meanings.specs.Static.{KType, IntType, Static, declared, declared_local, with_local, type_of, IsTyped, MainHasTypes, ClassHasTypes, FileHasTypes, AllHaveTypes, class_names, main_static}
+use Rattle.meanings.specs.JTyped.{known_by, Knows, AreTyped, MainIsTyped, ClassIsTyped, IsTypedFile, AllAreTyped, class_names as java_class_names}
 use Rattle.meanings.specs.JNamed.{named_by, level_by as java_level_by, level_of as java_level_of, IsNamed, AreNamed, MainIsNamed, ClassIsNamed}
 use Rattle.meanings.specs.KSpells.{stands_by, level_by, level_of, IsExpression, AreStatements, IsMain, IsClass}
 use Rattle.meanings.specs.Laws.{TypesAreKept, SpellingIsKept}
@@ -67,6 +67,9 @@ class_typed : (class : Option JClass) → ClassIsTyped class → ClassHasTypes (
 class_typed None typed = tt
 class_typed (Some class) typed = main_typed class.name class.main typed
 
+pub file_types_are_kept : (file : JFile) → IsTypedFile file → FileHasTypes (file_of file)
+file_types_are_kept file typed = class_typed file.class typed
+
 all_typed : (files : List JFile) → AllAreTyped files → AllHaveTypes (files_of files)
 all_typed [] typed = tt
 all_typed (file ∷ files) typed = (class_typed file.class typed.0, all_typed files typed.1)
@@ -78,9 +81,6 @@ name_kept (Some class) = refl
 names_kept : (files : List JFile) → class_names (files_of files) ≡ java_class_names files
 names_kept [] = refl
 names_kept (file ∷ files) = ap (λ (name : Option Name). cons_option name (class_names (files_of files))) (name_kept file.class) ∙ ap (cons_option (option_map (λ (class : JClass). class.name) file.class)) (names_kept files)
-
-pub file_types_are_kept : (file : JFile) → IsTypedFile file → ClassHasTypes (file_of file).class
-file_types_are_kept file typed = class_typed file.class typed
 
 pub types_are_kept : TypesAreKept
 types_are_kept files typed = record { classes = all_typed files typed.classes; names = subst Differ (sym (names_kept files)) typed.names }

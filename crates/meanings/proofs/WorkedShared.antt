@@ -1,17 +1,16 @@
 -- Worked steps of what the languages share: fields, elements, statics, construction, calls on a value, loops, exceptions, numbers and texts.
-use Rattle.std.proofs.Common.{◌≡◌, ℕ, zero, suc, ℤ, pos, negsuc, Bool, true, false, List, [], ◌∷◌, Option, Some, None, refl, if◌then◌else◌}
+use Rattle.std.proofs.Common.{◌≡◌, ℕ, zero, suc, pos, negsuc, Bool, true, false, List, [], ◌∷◌, Some, None, refl}
 use Rattle.std.specs.Prelude.{codes}
-use Rattle.std.specs.Int.{int_wrap, int_rem_euclid, cast_unsigned}
+use Rattle.std.specs.Int.{int_wrap}
 use Rattle.std.specs.Fmt.{digits}
 use Prim.Native.String.{String}
-use Rattle.j2k_base.specs.declared.constants.Op2.TheVariants.{Add, Sub, Mul, Div, Rem, Shl, Shr, Ushr, And, Or, Xor, Lt, Le, Gt, Ge, Eq, Ne}
-use Rattle.meanings.specs.Values.{Name, ClassName, Simple, Anonymous, Field, Site, Kind, Byte, Short, Char, Int, Long, Elements, Integers, Booleans, Objects, Arrays, Value, Null, Integer, Boolean, Units, Class, Object, Array, Lambda, NoMore, Capture, AnObject, AnArray, Step, Touch, Alloc, Built, Get, Put, GetStatic, PutStatic, GetElem, PutElem, Print, Raise, Enter, Exit, Torn, End, Result, Uncaught, Answer, Run, Done, Given, Raised, text_of}
-use Rattle.meanings.specs.Classes.{Classes, is_a, plain_classes}
-use Rattle.meanings.specs.Outcome.{State, get, Break, Continue, Leave, Jump, Exits, Returns, Throws, Outcome, Asks, Busy, Gives, Jumps, Meaning, pure, ◌>>=◌, ◌>>◌, jump, local, assign}
-use Rattle.meanings.specs.Machine.{Callee, InBody, InText, InRow, Place, call_on, get_static, put_static, get_field, put_field, get_element, put_element, print_line, arithmetic, logic, cast_to, and_also, or_else, choose, once, catch, is_break, is_leave, loop, do_loop, for_loop, until_loop, try}
+use Rattle.j2k_base.specs.declared.constants.Op2.TheVariants.{Add, Div, Rem, Shl, Xor, Lt}
+use Rattle.meanings.specs.Values.{Name, Simple, Anonymous, Field, Site, Byte, Short, Char, Int, Long, Elements, Integers, Objects, Arrays, Value, Null, Integer, Boolean, Units, Class, Object, Array, Lambda, NoMore, Capture, AnObject, Alloc, Built, Get, Put, GetStatic, PutStatic, GetElem, PutElem, Print, Raise, Exit, Torn, End, Result, Uncaught, Answer, Done, Given, text_of}
+use Rattle.meanings.specs.Classes.{is_a, plain_classes}
+use Rattle.meanings.specs.Outcome.{Break, Continue, Leave, Jump, Exits, Returns, Throws, Meaning, pure, ◌>>=◌, ◌>>◌, jump, local, assign}
+use Rattle.meanings.specs.Machine.{Callee, InBody, InText, Place, call_on, get_static, put_static, get_field, put_field, get_element, put_element, print_line, arithmetic, logic, cast_to, and_also, or_else, once, catch, is_leave, loop, do_loop, for_loop, until_loop, try}
 use Rattle.meanings.specs.Program.{Program, Body, Enters, Turn, Next, IsBusy, thread, plain_callee, main_site}
-use Rattle.meanings.specs.World.{World, answer}
-use Rattle.meanings.specs.Objects.{this_name, self, make, First, Nothing, Super, constructed, put_own, finally, monitor}
+use Rattle.meanings.specs.Objects.{this_name, self, make, Nothing, Super, constructed, put_own, finally, monitor}
 
 -- ---- programs
 

@@ -1,5 +1,5 @@
 -- What is known of the classes of a project and of the library, and which values are of a type.
-use Rattle.std.specs.Prelude.{ℕ, zero, suc, Bool, true, false, ◌==◌, List, [], ◌∷◌, length, Option, Some, None, if◌then◌else◌, slice_get, codes}
+use Rattle.std.specs.Prelude.{ℕ, zero, suc, Bool, true, false, ◌==◌, length, Option, Some, None, if◌then◌else◌, slice_get, codes}
 use Rattle.std.specs.Option.{option_map, option_map_or}
 use Rattle.java_lib.specs.Library.{Named, classes}
 use Rattle.java_lib.specs.Classes.{class_simple, above_of}

@@ -21,3 +21,5 @@ pub mod Laws
 pub mod JNamed
 pub mod JTyped
 pub mod KSpells
+pub mod Tables
+pub mod Safety

@@ -2,7 +2,7 @@
 use Rattle.std.specs.Prelude.{ℕ, Bool, true, false, List, [], ◌∷◌, ◌++◌, map, Option, Some, None, if◌then◌else◌, codes}
 use Rattle.meanings.specs.Values.{Name, ClassName, Field, Site, Elements, Value, Units, Captured, NoMore, Capture, same_value, AnObject, ALambda, Alloc, Built, Put, Enter, Exit as ExitStep, Lib}
 use Rattle.meanings.specs.Classes.{Classes, is_a}
-use Rattle.meanings.specs.Outcome.{Exit, Jump, Exits, Returns, Throws, Outcome, Asks, Busy, Gives, Jumps, Meaning, then_do, pure, ◌>>=◌, ◌>>◌, jump, local, assign}
+use Rattle.meanings.specs.Outcome.{Throws, Outcome, Asks, Busy, Gives, Jumps, Meaning, then_do, pure, ◌>>=◌, ◌>>◌, jump, local, assign}
 use Rattle.meanings.specs.Machine.{Place, ask_value, ask_done, apart, construct, touch, check_null, converted, all, sequence, is_break, is_label, catch}
 
 -- ---- objects

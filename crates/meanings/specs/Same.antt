@@ -1,10 +1,9 @@
 -- When a part of Kotlin does what a part of Java does.
-use Rattle.std.specs.Prelude.{◌≡◌, ◌≢◌, ℕ, ◌==◌, ◌&&◌, Bool, true, false, nat_lt, List, [], ◌∷◌, Option, Some, None}
+use Rattle.std.specs.Prelude.{◌≡◌, ◌≢◌, ℕ, ◌&&◌, Bool, true, false, nat_lt, List, [], ◌∷◌}
 use Rattle.meanings.specs.Values.{Name, ClassName, Site, Value, Step, Torn, Answer}
-use Rattle.meanings.specs.Classes.{Classes}
-use Rattle.meanings.specs.Outcome.{Locals, get, State, Exit, Break, Continue, Jump, Exits, Returns, Throws, Outcome, Asks, Busy, Gives, Jumps, Meaning}
-use Rattle.meanings.specs.Machine.{Bodies, Callee, Place, apart}
-use Rattle.meanings.specs.Program.{Program, Body, Initializer, Start, Turn, Next, thread}
+use Rattle.meanings.specs.Outcome.{Locals, get, State, Exit, Exits, Returns, Throws, Outcome, Asks, Busy, Gives, Jumps, Meaning}
+use Rattle.meanings.specs.Machine.{Bodies, Place, apart}
+use Rattle.meanings.specs.Program.{Program, Body, Initializer, Start, Next, thread}
 
 -- a name of the conversion's own begins with a digit
 abbrev pub is_fresh : Name → Bool

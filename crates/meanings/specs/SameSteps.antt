@@ -9,7 +9,7 @@ use Rattle.meanings.specs.Outcome.{◌>>◌, assign_all}
 use Rattle.meanings.specs.Machine.{apart}
 use Rattle.meanings.specs.Program.{Program, Body, main_site, place, bodies, Enters, Turn, turn}
 use Rattle.meanings.specs.Convert.{main_of}
-use Rattle.meanings.specs.Entries.{Takes, Strings, Entry, Input, count_of, Fits, site_of, run_of}
+use Rattle.meanings.specs.Entries.{Strings, Entry, Input, count_of, Fits, site_of, run_of}
 use Rattle.meanings.specs.Runs.{Item, NeverTorn}
 use Rattle.meanings.specs.Java.{entry_class, java_main, JavaThread, classes_in as java_classes_in, java_program}
 use Rattle.meanings.specs.Kotlin.{classes_in as kotlin_classes_in, kotlin_main, kotlin_program, KotlinThread}

@@ -13,6 +13,7 @@ use Rattle.meanings.specs.Values.{Name, same_name, Differ, ClassName, Simple}
 pub data KType : Type 0 where
   IntType : KType
   StringType : KType
+  ClassType : ClassName → KType
   ArrayType : KType → KType
   Nullable : KType → KType
 
@@ -21,6 +22,7 @@ abbrev pub is_non_null : KType → Bool
 is_non_null (Nullable type) = false
 is_non_null IntType = true
 is_non_null StringType = true
+is_non_null (ClassType class) = true
 is_non_null (ArrayType type) = true
 
 -- What is known at a place of a body: the class whose text it is, what `return` takes, if a value, and the declared types of the
@@ -104,10 +106,14 @@ abbrev pub ClassHasTypes : Option KClass → Type 0
 ClassHasTypes None = Unit {0}
 ClassHasTypes (Some class) = MainHasTypes class.name class.main
 
--- each file's class is so
+-- a file whose class is so
+abbrev pub FileHasTypes : KFile → Type 0
+FileHasTypes file = ClassHasTypes file.class
+
+-- each file is so
 abbrev pub AllHaveTypes : List KFile → Type 0
 AllHaveTypes [] = Unit {0}
-AllHaveTypes (file ∷ files) = ClassHasTypes file.class × AllHaveTypes files
+AllHaveTypes (file ∷ files) = FileHasTypes file × AllHaveTypes files
 
 -- the simple names of the classes of files
 abbrev pub class_names : List KFile → List Name

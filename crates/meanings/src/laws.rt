@@ -11,6 +11,7 @@ ghost use Rattle.meanings.specs.World.{World};
 ghost use Rattle.meanings.specs.Runs.{Thread};
 ghost use Rattle.meanings.specs.SameSteps.{SameSteps, EntriesAreEntered};
 ghost use Rattle.meanings.specs.Same.{SameThreadsOf};
+ghost use Rattle.meanings.specs.Safety.{NeverTornWhereTyped};
 ghost use Rattle.meanings.specs.Laws.{SameIsEqual, SameAtEveryDepth, EqualRuns, MatchingRuns, OnlyStepsChange, ThreadsAgree, OneAnswer, ChangesOnlyWhatItSays, RunsGrow, SpellingIsKept, TypesAreKept};
 ghost use Rattle.meanings.specs.KSpells.{SpellsOne};
 
@@ -53,6 +54,11 @@ pub fn equal_runs<I: Invariant>()
 /// Matching turns give equal runs, also from two worlds.
 pub fn matching_runs<R: Relation>()
     ensures { MatchingRuns R.relates }
+{}
+
+/// No run of a program asks Torn where its texts do what a table of types says of them.
+pub fn never_torn()
+    ensures { NeverTornWhereTyped }
 {}
 
 /// A step has one answer at most, and a turn that is no step, as a blocked one, changes nothing.
