@@ -10,7 +10,7 @@ use Rattle.java_tree.specs.Seen.{seen}
 use Rattle.java_taken.proofs.LawsToCite.{taken as taken_good}
 use Rattle.meanings.specs.Convert.{file_of, files_of}
 use Rattle.meanings.specs.KText.{KText}
-use Rattle.meanings.proofs.LawsToCite.{same_steps, entries_are_entered, spells_one, file_types_are_kept, spelling_is_kept}
+use Rattle.meanings.proofs.LawsToCite.{same_steps, entries_are_entered, spells_one, spelling_is_kept, types_are_kept}
 use Rattle.j2k_tool.specs.declared.files.TakenFile.{TakenFile}
 use Rattle.j2k_tool.specs.declared.status.Status.{Status}
 use Rattle.j2k_tool.specs.declared.status.Status.TheVariants.{Done, Usage, NotEmpty, TooLarge, Refused}
@@ -21,6 +21,7 @@ use Rattle.j2k_tool.specs.Projects.{AreTaken, IsProject, trees_of}
 use Rattle.j2k_tool.specs.Sources.{IsTaken}
 use Rattle.j2k_tool.specs.Words.{words_mean}
 use Rattle.j2k_tool.specs.Written.{placed, kotlin_file, report_file}
+use Rattle.j2k_tool.proofs.ClassNames.{project_typed}
 use Rattle.j2k_tool.proofs.Once.{project_once}
 
 -- what asks for an answer of the status Done
@@ -67,7 +68,6 @@ written dst classes earlier file taken is =
       spelled = spelled;
       one_kotlin = λ other spells. spells_one other kotlin (KText kotlin) spells spelled;
       no_keyword = good.keywords;
-      typed = file_types_are_kept taken.typed.file good.typed;
     }
 
 all_written : (dst : List ℕ) (classes earlier : List (List ℕ)) (files : List SourceFile) (java : List TakenFile) → AreTaken classes earlier files java → AreWritten dst java (files_of (trees_of java)) (kotlin_files dst java)
@@ -90,6 +90,7 @@ headline words files new status text answered done =
       written = kotlin_files c.dst c.java;
       made = answered.made ∙ ap (λ (a : Answer). with_files (Some files) a.files) c.is ∙ ap (with_files (Some files)) (map-append (placed c.dst) (map kotlin_file c.java) (report_file c.java ∷ []));
       spelled = all_written c.dst (names_of c.project.sources.files) [] c.project.sources.files c.java c.project.takes.1;
+      typed = types_are_kept (trees_of c.java) (project_typed (names_of c.project.sources.files) c.project.sources.files c.java c.project.takes.1);
       steps = same_steps (trees_of c.java) c.project.sources.entries;
       entered = entries_are_entered (trees_of c.java) c.project.sources.entries;
     }

@@ -1,3 +1,4 @@
+pub mod ClassNames
 pub mod Firsts
 pub mod Forms
 pub mod Headlines

@@ -21,7 +21,7 @@ use Rattle.j2k_tool.specs.Projects.{paths_of}
 use Rattle.j2k_tool.specs.Words.{is_slash}
 
 -- a path of a Java file is its base and `.java`
-base_is : (path : List ℕ) → is_java path ≡ true → path ≡ base_of path ++ java_end
+pub base_is : (path : List ℕ) → is_java path ≡ true → path ≡ base_of path ++ java_end
 base_is path java =
     (ends_is Decides-eqb path java_end (is_java path) refl).0 java
     ∙ ap (λ (b : List ℕ). b ++ java_end) (sym (ap (λ b. cond b (take (length path - length java_end) path) path) java))

@@ -439,3 +439,51 @@ taken classes earlier x f text is spells =
     let third = bind_typed (u.types classes earlier x.path x.types) (λ class. Judged.Typed (u.file_of first.0 class)) f second.2 in
     subst (λ (f : TypedFile). FileGood f.file) (typed_is _ _ third.2)
     (file_good first.0 third.0 (typed_package x.package first.0 first.1) (typed_types classes earlier x.path (length text) x.types spells.stands third.0 third.1))
+
+-- ---- the name of a class
+
+-- the name that a class, where there is one, may have
+abbrev MayBeNamed : List (List ℕ) → List ℕ → Option JClass → Type 0
+MayBeNamed earlier path None = Unit {0}
+MayBeNamed earlier path (Some class) = u.may_name earlier path class.name ≡ true
+
+module _ (classes earlier : List (List ℕ)) (path : List ℕ) where
+  may_named : (name : List ℕ) (at : Position) (xs : List JMember) (c : u.Placed) → u.named classes earlier path name at xs ≡ Judged.Typed c → u.may_name earlier path c.0.name ≡ true
+  may_named name at xs c is =
+      let parts = if_typed (u.may_name earlier path name) (u.class_of classes name at xs) at c is in
+      let first = bind_typed (u.members classes xs) (λ main. Judged.Typed (record { name = name; main = main }, at)) c parts.1 in
+      subst (λ (c : u.Placed). u.may_name earlier path c.0.name ≡ true) (typed_is _ _ first.2) parts.0
+
+  may_headed : (at : Position) (o : Option u.Named) (xs : List JMember) (c : u.Placed) → u.headed classes earlier path at o xs ≡ Judged.Typed c → u.may_name earlier path c.0.name ≡ true
+  may_headed at None xs c is = absurd (cc is)
+  may_headed at (Some x) xs c is = may_named x.0 x.1 xs c is
+
+  may_top_form : (at : Position) (x : JMember-F JBody JMember JStatement JCase JCaseGroup JCatch) (c : u.Placed) → u.top_of classes earlier path at x ≡ Judged.Typed c → u.may_name earlier path c.0.name ≡ true
+  may_top_form at (JMember-F.Type h left constants bodies xs right) c is = may_headed at (u.class_named h) xs c is
+  may_top_form at (JMember-F.Declared h bodies end) c is = absurd (cc is)
+  may_top_form at (JMember-F.Bodied h left xs right) c is = absurd (cc is)
+
+  may_top : (x : JMember) (c : u.Placed) → u.top classes earlier path x ≡ Judged.Typed c → u.may_name earlier path c.0.name ≡ true
+  unfolding u.top
+  may_top x c is = may_top_form (member_at x) (out-JMember x) c is
+
+  may_types : (xs : List JMember) (o : Option u.Placed) → u.types classes earlier path xs ≡ Judged.Typed o → MayBeNamed earlier path (class_in o)
+  may_types [] o is = subst (λ (o : Option u.Placed). MayBeNamed earlier path (class_in o)) (typed_is _ _ is) tt
+  may_types (x ∷ []) o is =
+      let first = bind_typed (u.top classes earlier path x) (λ class. Judged.Typed (Some class)) o is in
+      subst (λ (o : Option u.Placed). MayBeNamed earlier path (class_in o)) (typed_is _ _ first.2) (may_top x first.0 first.1)
+  may_types (x ∷ y ∷ xs) o is = let first = bind_typed (u.top classes earlier path x) (λ class. Judged.Open (member_at y)) o is in absurd (cc (first.2))
+
+file_named : (earlier : List (List ℕ)) (path : List ℕ) (names : List (List ℕ)) (o : Option u.Placed) → MayBeNamed earlier path (class_in o) → MayBeNamed earlier path (u.file_of names o).file.class
+file_named earlier path names None may = may
+file_named earlier path names (Some c) may = may
+
+pub may_be_named : (classes earlier : List (List ℕ)) (x : JUnit) (f : TypedFile) (class : JClass) → u.unit classes earlier x ≡ Judged.Typed f → f.file.class ≡ Some class → u.may_name earlier x.path class.name ≡ true
+unfolding u.unit
+may_be_named classes earlier x f class is there =
+    let declared = no_comment x.comments (u.declared classes earlier x) f is in
+    let first = bind_typed (u.package_of x.package) (λ parts. u.imports_of x.imports >>= λ none. u.types classes earlier x.path x.types >>= λ class. Judged.Typed (u.file_of parts class)) f declared in
+    let second = bind_typed (u.imports_of x.imports) (λ none. u.types classes earlier x.path x.types >>= λ class. Judged.Typed (u.file_of first.0 class)) f first.2 in
+    let third = bind_typed (u.types classes earlier x.path x.types) (λ class. Judged.Typed (u.file_of first.0 class)) f second.2 in
+    let may = file_named earlier x.path first.0 third.0 (may_types classes earlier x.path x.types third.0 third.1) in
+    subst (MayBeNamed earlier x.path) there (subst (λ (f : TypedFile). MayBeNamed earlier x.path f.file.class) (typed_is _ _ third.2) may)

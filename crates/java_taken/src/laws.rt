@@ -1,16 +1,17 @@
 //! What is promised of a file that is taken, of a unit that spells some tokens.
 
-ghost use Rattle.std.specs.Prelude.{◌≡◌, ℕ, List};
+ghost use Rattle.std.specs.Prelude.{◌≡◌, ℕ, List, true, Some};
 ghost use Rattle.java_tree.specs.Seen.{Tokens};
 ghost use Rattle.java_unit_grammar.specs.Standing.{UnitSpells};
 ghost use Rattle.java_unit_grammar.specs.declared.units.JUnit.{JUnit};
+ghost use Rattle.meanings.specs.declared.java.JClass.{JClass};
 ghost use Rattle.meanings.specs.Convert.{file_of};
 ghost use Rattle.meanings.specs.JNamed.{JNamed};
 ghost use Rattle.meanings.specs.JTyped.{IsTypedFile};
 ghost use Rattle.meanings.specs.KSpells.{HasNoKeyword};
 ghost use Rattle.java_taken.specs.declared.judged.TypedFile.{TypedFile};
 ghost use Rattle.java_taken.specs.Judged as j;
-ghost use Rattle.java_taken.specs.Units.{unit};
+ghost use Rattle.java_taken.specs.Units.{unit, may_name};
 
 /// It is well typed (JLS 6.3, 6.4, 16).
 pub fn is_typed()
@@ -25,4 +26,9 @@ pub fn is_named()
 /// No name of its Kotlin is a hard keyword.
 pub fn has_no_keyword()
     ensures { (classes earlier : List (List ℕ)) (x : JUnit) (f : TypedFile) (text : Tokens) → unit classes earlier x ≡ j.Judged.Typed f → UnitSpells x text → HasNoKeyword (file_of f.file) }
+{}
+
+/// Its class has the name of its file, and no class of an earlier file has it (own rule where JLS 7.6 leaves it open).
+pub fn may_be_named()
+    ensures { (classes earlier : List (List ℕ)) (x : JUnit) (f : TypedFile) (class : JClass) → unit classes earlier x ≡ j.Judged.Typed f → f.file.class ≡ Some class → may_name earlier x.path class.name ≡ true }
 {}

@@ -11,6 +11,6 @@ mod units;
 mod words;
 
 pub use judged::{Judged, TypedFile};
-pub use laws::{has_no_keyword, is_named, is_typed};
+pub use laws::{has_no_keyword, is_named, is_typed, may_be_named};
 pub use names::Names;
 pub use units::judge;
