@@ -15,7 +15,7 @@ from timing import timed
 SHAPES = ["2000", "2097", "wide", "2000", "8388", "wide", "2000", "8388", "dense", "16", "1048576", "wide", "16", "1048576", "dense"]
 
 
-def java_unit_parser(folder):
+def java_files(folder):
     return [os.path.join(place, name) for place, _, names in os.walk(folder) for name in names]
 
 

@@ -12,6 +12,3 @@ pub use casts::cast;
 pub use folding::fold;
 pub use laws::{casts_are_covered, one_value, operators_are_covered};
 pub use operators::fold2;
-
-#[cfg(test)]
-mod tests;

@@ -22,6 +22,3 @@ pub use series::{EntryNames, FileBytes, Paths, Series, SourceFile, SourceFiles, 
 pub use tables::{Row, Table};
 pub use texts::Text;
 pub use widths::{wrap_i8, wrap_i16, wrap_i32, wrap_i64, wrap_u16};
-
-#[cfg(test)]
-mod tests;

@@ -5,6 +5,3 @@ pub mod laws;
 mod reading;
 
 pub use reading::{ENTRIES, SETTINGS_FILE, settings};
-
-#[cfg(test)]
-mod tests;

@@ -17,6 +17,3 @@ mod writing;
 
 pub use command::run;
 pub use status::Status;
-
-#[cfg(test)]
-mod tests;

@@ -16,6 +16,3 @@ pub use cutting::{CutFound, cut};
 pub use java_token_cursor::colon;
 pub use parting::raw;
 pub use stops::Stop;
-
-#[cfg(test)]
-mod tests;

@@ -6,6 +6,3 @@ mod heads;
 mod walk;
 
 pub use heads::{condition, constants, for_head, label, lock, member, simple, top};
-
-#[cfg(test)]
-mod tests;

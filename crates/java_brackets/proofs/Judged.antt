@@ -11,9 +11,9 @@ use Rattle.java_brackets.specs.declared.stack.Opened.{Opened}
 use Rattle.java_brackets.specs.declared.flaws.Flaw.{Flaw}
 use Rattle.java_brackets.specs.declared.flaws.Flaw.TheVariants as w
 use Rattle.java_brackets.specs.declared.flaws.Flawed.{Flawed}
-use Rattle.java_brackets.specs.declared.pairing.Scan.{Scan}
+use Rattle.java_brackets.specs.declared.scanning.Scan.{Scan}
 use Rattle.java_brackets.specs.Brackets.{bracket_at, Open, closed_by, open_before, Pairs, IsOpening, IsBracket, IsLonely, IsTooDeep, IsFlawed, IsFirstThere, IsFirst}
-use Rattle.java_brackets.specs.Steps.{lonely, flaw_of, told, first_before, IsScan, first_flaw}
+use Rattle.java_brackets.specs.Steps.{lonely, flaw_of, told, first_before, IsScan, least_flaw}
 use Rattle.java_brackets.proofs.Nesting.{Turn, turn, split_suc, Nested, nested, Has, has_below, has_opens, pairs_opens, pairs_closes, pairs_within, bracket_within, unpaired, open_or_paired}
 use Rattle.java_brackets.proofs.Scans.{first_more}
 
@@ -237,7 +237,7 @@ past_fine ts n le w.Lonely h =
 past_fine ts n le w.TooDeep h =
     let lt = bracket_within ts n (λ e. let P : Bracket → Type 0 = λ k. IsOpening k in subst P e h.0) in omega (arith, lt, le)
 
-judged : (ts : Tokens) (left : List Opened) (first : Option Flawed) → LeftIs ts left → FirstIs ts (length ts) first → Told ts (first_flaw left first)
+judged : (ts : Tokens) (left : List Opened) (first : Option Flawed) → LeftIs ts left → FirstIs ts (length ts) first → Told ts (least_flaw left first)
 judged ts [] None left first = λ n flaw h.
     elim (cases_lt n (length ts)) [
       | inl lt ↦ fine ts n (no_flaw_is ts n (first n lt)) (λ form e alone. opens_below ts n form left e alone) flaw h
@@ -251,7 +251,7 @@ judged ts (x ∷ xs) None left first =
     outer_first ts x xs left (λ k less. first k (omega (arith, less, lt)))
 judged ts (x ∷ xs) (Some y) left first = choose ts (length ts) x xs y left first (nat_lt y.number x.number) refl
 
-pub scan_judged : (ts : Tokens) (scan : Scan) → IsScan ts (length ts) scan → Told ts (first_flaw scan.stack.items scan.first)
+pub scan_judged : (ts : Tokens) (scan : Scan) → IsScan ts (length ts) scan → Told ts (least_flaw scan.stack.items scan.first)
 scan_judged ts scan s =
     let P : Option Flawed → Type 0 = λ first. FirstIs ts (length ts) first in
     judged ts scan.stack.items scan.first (left_by ts scan.stack.items (sym s.stack)) (subst P (sym s.first) (first_is ts (length ts)))

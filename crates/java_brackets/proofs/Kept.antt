@@ -1,4 +1,4 @@
--- The partners that a scan notes.
+-- The partners that are noted.
 use Rattle.std.proofs.Common.{◌≡◌, ◌≢◌, ◌<◌, ℕ, zero, suc, List, [], ◌∷◌, ◌++◌, length, get_or, slice_index, slice_set, Option, Some, None, refl, sym, ap, subst, ◌∙◌, inl, inr, arith}
 use Rattle.std.proofs.lemmas.List.{length-append, length-set, length-map}
 use Rattle.std.proofs.lemmas.Grind.{common_steps}
@@ -9,9 +9,8 @@ use Rattle.java_brackets.specs.declared.stack.Bracket.{Bracket}
 use Rattle.java_brackets.specs.declared.stack.Bracket.TheVariants as b
 use Rattle.java_brackets.specs.declared.flaws.Flaw.{Flaw}
 use Rattle.java_brackets.specs.declared.flaws.Flaw.TheVariants as w
-use Rattle.java_brackets.specs.declared.pairing.Scan.{Scan}
 use Rattle.java_brackets.specs.Brackets.{bracket_at, closed_by, open_before, Pairs, IsBracket, ArePartners, IsFlawed, Partnered}
-use Rattle.java_brackets.specs.Steps.{noted, partners_before, IsScan}
+use Rattle.java_brackets.specs.Steps.{noted, partners_before}
 use Rattle.java_brackets.proofs.Nesting.{Turn, turn, split_suc, pairs_below, pairs_opens, pairs_closes, pairs_within, open_or_paired, closed_once}
 use Rattle.java_brackets.proofs.Scans.{partners_more}
 use Rattle.java_brackets.proofs.Judged.{closing_lonely, left_lonely, opens_within}
@@ -151,7 +150,7 @@ partnered ts ps h none = record {
   others = λ n lt not. h.others n lt (other_of (bracket_at ts n) not);
 }
 
-pub scan_partners : (ts : Tokens) (scan : Scan) → IsScan ts (length ts) scan → NoFlaw ts → Partnered ts scan.partners.items
-scan_partners ts scan s none =
-    let P : List ℕ → Type 0 = λ ps. Partnered ts ps in
-    subst P (sym s.partners) (partnered ts (partners_before ts (length ts)) (kept ts (length ts)) none)
+pub all_partnered : (ts : Tokens) (ps : List ℕ) → ps ≡ partners_before ts (length ts) → NoFlaw ts → Partnered ts ps
+all_partnered ts ps is none =
+    let P : List ℕ → Type 0 = λ qs. Partnered ts qs in
+    subst P (sym is) (partnered ts (partners_before ts (length ts)) (kept ts (length ts)) none)

@@ -1,4 +1,4 @@
--- What a scan knows, a token further.
+-- What is known of flaws and of partners, a token further.
 use Rattle.std.proofs.Common.{◌≡◌, ◌<◌, ◌+◌, ℕ, zero, suc, List, [], ◌∷◌, length, reverse, slice_get, slice_set, get_or, Option, Some, None, IfSome, refl, sym, ap, subst, ◌∙◌, arith}
 use Rattle.std.proofs.lemmas.List.{length-append, length-set}
 use Rattle.std.proofs.lemmas.Option.{slice_get-map, slice_get_read}
@@ -7,8 +7,9 @@ use Rattle.java_tree.specs.declared.tokens.JToken.{JToken}
 use Rattle.java_brackets.specs.declared.stack.Bracket.{Bracket}
 use Rattle.java_brackets.specs.Brackets.{bracket, bracket_of, bracket_at, Open, closed_by, after, open_before}
 use Rattle.java_brackets.specs.declared.flaws.Flaw.{Flaw}
-use Rattle.java_brackets.specs.declared.pairing.Scan.{Scan}
-use Rattle.java_brackets.specs.Steps.{noted, partners_before, first_before, told, flaw_of, IsScan}
+use Rattle.java_brackets.specs.declared.pairing.Pairing.{Pairing}
+use Rattle.java_brackets.specs.declared.scanning.Scan.{Scan}
+use Rattle.java_brackets.specs.Steps.{noted, partners_before, first_before, told, flaw_of, IsScan, IsPairing}
 use Rattle.java_brackets.proofs.Nesting.{pairs_below}
 
 option_seen : (xs : List JToken) (n : ℕ) (x : JToken) → slice_get xs n ≡ Some x → slice_get (seen xs) n ≡ Some (token_seen x)
@@ -45,30 +46,42 @@ below_by ts n (Some i) h = pairs_below ts i n h
 pub partner_below : (ts : Tokens) (n : ℕ) → IfSome (closed_by (open_before ts n) (bracket_at ts n)) (λ i. i < n)
 partner_below ts n = below_by ts n (closed_by (open_before ts n) (bracket_at ts n)) refl
 
-pub scan_none : (ts : Tokens) (scan : Scan) → scan.stack.items ≡ [] → scan.partners.items ≡ [] → scan.first ≡ None → IsScan ts 0 scan
-unfolding open_before first_before partners_before
-scan_none ts scan e f g = record { stack = rw e refl; partners = f; first = g }
-
-pub scan_partner : (ts : Tokens) (n : ℕ) (scan : Scan) (kind : Bracket) (partner : Option ℕ) → IsScan ts n scan → bracket_at ts n ≡ kind
-    → partner ≡ closed_by (reverse scan.stack.items) kind → IfSome partner (λ i. i < length scan.partners.items)
-scan_partner ts n scan kind partner s e h =
-    let P : Option ℕ → Type 0 = λ found. IfSome found (λ i. i < length scan.partners.items) in
-    let Q : ℕ → Type 0 = λ k. IfSome (closed_by (open_before ts n) (bracket_at ts n)) (λ i. i < k) in
-    let long : n ≡ length scan.partners.items = sym (ap length s.partners ∙ length_partners ts n) in
-    let is : closed_by (open_before ts n) (bracket_at ts n) ≡ partner =
-    ap (λ (z : Open). closed_by z (bracket_at ts n)) (sym s.stack) ∙ (ap (λ (z : Bracket). closed_by (reverse scan.stack.items) z) e ∙ sym h) in
-    subst P is (subst Q long (partner_below ts n))
+pub scan_none : (ts : Tokens) (scan : Scan) → scan.stack.items ≡ [] → scan.first ≡ None → IsScan ts 0 scan
+unfolding open_before first_before
+scan_none ts scan e f = record { stack = rw e refl; first = f }
 
 open_more : (ts : Tokens) (n : ℕ) → open_before ts (suc n) ≡ after (open_before ts n) n (bracket_at ts n)
 unfolding open_before
 open_more ts n = refl
 
-pub scan_more : (ts : Tokens) (n : ℕ) (old new : Scan) (kind : Bracket) (partner : Option ℕ) (flaw : Option Flaw) → IsScan ts n old → bracket_at ts n ≡ kind
-    → partner ≡ closed_by (reverse old.stack.items) kind → flaw ≡ flaw_of (reverse old.stack.items) kind
-    → new.first ≡ told old.first n flaw → new.partners.items ≡ noted old.partners.items n partner
+pub scan_more : (ts : Tokens) (n : ℕ) (old new : Scan) (kind : Bracket) (flaw : Option Flaw) → IsScan ts n old → bracket_at ts n ≡ kind
+    → flaw ≡ flaw_of (reverse old.stack.items) kind → new.first ≡ told old.first n flaw
     → reverse new.stack.items ≡ after (reverse old.stack.items) n kind → IsScan ts (suc n) new
-scan_more ts n old new kind partner flaw s e p f g h i = record {
-  stack = i ∙ rw (s.stack, ← e, ← open_more ts n) refl;
-  partners = h ∙ rw (p, s.partners, s.stack, ← e, ← partners_more ts n) refl;
+scan_more ts n old new kind flaw s e f g h = record {
+  stack = h ∙ rw (s.stack, ← e, ← open_more ts n) refl;
   first = g ∙ rw (f, s.first, s.stack, ← e, ← first_more ts n) refl;
+}
+
+-- ---- partners
+
+pub pairing_none : (ts : Tokens) (pairing : Pairing) → pairing.stack.items ≡ [] → pairing.partners.items ≡ [] → IsPairing ts 0 pairing
+unfolding open_before partners_before
+pairing_none ts pairing e f = record { stack = rw e refl; partners = f }
+
+pub pairing_partner : (ts : Tokens) (n : ℕ) (pairing : Pairing) (kind : Bracket) (partner : Option ℕ) → IsPairing ts n pairing → bracket_at ts n ≡ kind
+    → partner ≡ closed_by (reverse pairing.stack.items) kind → IfSome partner (λ i. i < length pairing.partners.items)
+pairing_partner ts n pairing kind partner s e h =
+    let P : Option ℕ → Type 0 = λ found. IfSome found (λ i. i < length pairing.partners.items) in
+    let Q : ℕ → Type 0 = λ k. IfSome (closed_by (open_before ts n) (bracket_at ts n)) (λ i. i < k) in
+    let long : n ≡ length pairing.partners.items = sym (ap length s.partners ∙ length_partners ts n) in
+    let is : closed_by (open_before ts n) (bracket_at ts n) ≡ partner =
+    ap (λ (z : Open). closed_by z (bracket_at ts n)) (sym s.stack) ∙ (ap (λ (z : Bracket). closed_by (reverse pairing.stack.items) z) e ∙ sym h) in
+    subst P is (subst Q long (partner_below ts n))
+
+pub pairing_more : (ts : Tokens) (n : ℕ) (old new : Pairing) (kind : Bracket) (partner : Option ℕ) → IsPairing ts n old → bracket_at ts n ≡ kind
+    → partner ≡ closed_by (reverse old.stack.items) kind → new.partners.items ≡ noted old.partners.items n partner
+    → reverse new.stack.items ≡ after (reverse old.stack.items) n kind → IsPairing ts (suc n) new
+pairing_more ts n old new kind partner s e p g h = record {
+  stack = h ∙ rw (s.stack, ← e, ← open_more ts n) refl;
+  partners = g ∙ rw (p, s.partners, s.stack, ← e, ← partners_more ts n) refl;
 }

@@ -9,6 +9,7 @@ use Rattle.java_brackets.specs.declared.stack.Bracket.TheVariants as b
 use Rattle.java_brackets.specs.declared.stack.Opened.{Opened}
 use Rattle.java_brackets.specs.declared.flaws.Flaw.{Flaw}
 use Rattle.java_brackets.specs.declared.flaws.Flaw.TheVariants as w
+use Rattle.java_brackets.specs.declared.flaws.Flawed.{Flawed}
 use Rattle.java_brackets.specs.declared.pairing.Paired.{Paired}
 use Rattle.java_brackets.specs.declared.pairing.Paired.TheVariants as p
 
@@ -95,6 +96,11 @@ IsFirstThere ts n w.TooDeep = ¬ IsLonely ts n
 -- the first flaw: no earlier token has one
 abbrev pub IsFirst : Tokens → ℕ → Flaw → Type 0
 IsFirst ts n flaw = IsFlawed ts n flaw × IsFirstThere ts n flaw × ((k : ℕ) (other : Flaw) → k < n → ¬ IsFlawed ts k other)
+
+-- the first flaw, or that there is none
+abbrev pub IsFirstFlaw : Tokens → Option Flawed → Type 0
+IsFirstFlaw ts (Some x) = IsFirst ts x.number x.flaw
+IsFirstFlaw ts None = (n : ℕ) (flaw : Flaw) → ¬ IsFlawed ts n flaw
 
 -- ---- partners
 

@@ -7,7 +7,8 @@ use Rattle.java_brackets.specs.declared.stack.Opened.{Opened}
 use Rattle.java_brackets.specs.declared.flaws.Flaw.{Flaw}
 use Rattle.java_brackets.specs.declared.flaws.Flaw.TheVariants as w
 use Rattle.java_brackets.specs.declared.flaws.Flawed.{Flawed}
-use Rattle.java_brackets.specs.declared.pairing.Scan.{Scan}
+use Rattle.java_brackets.specs.declared.pairing.Pairing.{Pairing}
+use Rattle.java_brackets.specs.declared.scanning.Scan.{Scan}
 use Rattle.java_brackets.specs.Brackets.{Open, bracket_at, open_before, closed_by}
 
 abbrev pub lonely : Option ℕ → Option Flaw
@@ -39,11 +40,14 @@ partners_before ts (suc n) = noted (partners_before ts n) n (closed_by (open_bef
 
 pub record IsScan (ts : Tokens) (n : ℕ) (scan : Scan) : Type 0 where
   pub stack : reverse scan.stack.items ≡ open_before ts n
-  pub partners : scan.partners.items ≡ partners_before ts n
   pub first : scan.first ≡ first_before ts n
 
+pub record IsPairing (ts : Tokens) (n : ℕ) (pairing : Pairing) : Type 0 where
+  pub stack : reverse pairing.stack.items ≡ open_before ts n
+  pub partners : pairing.partners.items ≡ partners_before ts n
+
 -- the first flaw, where these are left open, the outermost first
-abbrev pub first_flaw : List Opened → Option Flawed → Option Flawed
-first_flaw [] seen = seen
-first_flaw (x ∷ xs) None = Some (record { number = x.number; flaw = w.Lonely })
-first_flaw (x ∷ xs) (Some y) = if nat_lt y.number x.number then Some y else Some (record { number = x.number; flaw = w.Lonely })
+abbrev pub least_flaw : List Opened → Option Flawed → Option Flawed
+least_flaw [] seen = seen
+least_flaw (x ∷ xs) None = Some (record { number = x.number; flaw = w.Lonely })
+least_flaw (x ∷ xs) (Some y) = if nat_lt y.number x.number then Some y else Some (record { number = x.number; flaw = w.Lonely })

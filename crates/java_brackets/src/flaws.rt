@@ -1,7 +1,7 @@
 // What may be wrong with brackets.
 
 /// What is wrong with a bracket.
-#[derive(Clone, Copy, Debug, PartialEq, Eq)]
+#[derive(Clone, Copy, Debug)]
 pub enum Flaw {
     /// It has no partner.
     Lonely,
@@ -10,7 +10,7 @@ pub enum Flaw {
 }
 
 /// A bracket at fault: its number among the tokens, from 0, and what is wrong with it.
-#[derive(Clone, Copy, Debug, PartialEq, Eq)]
+#[derive(Clone, Copy)]
 pub struct Flawed {
     pub number: u32,
     pub flaw: Flaw,

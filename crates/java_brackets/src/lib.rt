@@ -4,11 +4,10 @@
 mod flaws;
 mod laws;
 mod pairing;
+mod scanning;
 mod stack;
 
 pub use flaws::{Flaw, Flawed};
 pub use laws::{one_first_flaw, one_partner, pairs_match, pairs_nest};
 pub use pairing::{Paired, Partners, pairs};
-
-#[cfg(test)]
-mod tests;
+pub use scanning::first_flaw;

@@ -1,12 +1,13 @@
 //! The brackets of a file, and their partners.
 
-ghost use Rattle.std.specs.Prelude.{◌≡◌, ◌<◌, ◌^◌, suc, IfOk, IfSome, length, slice_index};
+ghost use Rattle.std.specs.Prelude.{◌≡◌, ◌<◌, ◌^◌, suc, None, IfOk, IfSome, length, slice_index};
 ghost use Rattle.java_tree.specs.Seen.{seen};
-ghost use Rattle.java_brackets.specs.Brackets.{IsPaired};
-ghost use Rattle.java_brackets.specs.Steps.{IsScan, noted, told};
+ghost use Rattle.java_brackets.specs.Brackets.{IsFirstFlaw, IsPaired, Partnered};
+ghost use Rattle.java_brackets.specs.Steps.{IsPairing, noted};
 
-use crate::flaws::{Flaw, Flawed};
-use crate::stack::{Bracket, Opened, bracket_of, closed_by, first_flaw, flaw_of, pass};
+use crate::flaws::Flawed;
+use crate::scanning::first_flaw;
+use crate::stack::{Opened, bracket_of, closed_by, pass};
 use j2k_base::NoMemory;
 use java_tree::JToken;
 use std::alloc::Global;
@@ -14,7 +15,7 @@ use std::marker::Model;
 
 /// The partners of brackets, seen by contracts as a list: for each token the number of the one that it
 /// pairs with, its own where it is no bracket.
-#[derive(Debug, Drop)]
+#[derive(Drop)]
 pub struct Partners {
     numbers: Vec<u32>,
 }
@@ -45,7 +46,7 @@ impl Partners {
 }
 
 /// What becomes of the brackets of a file.
-#[derive(Debug, Drop)]
+#[derive(Drop)]
 pub enum Paired {
     /// The first that is at fault.
     Flawed(Flawed),
@@ -53,24 +54,13 @@ pub enum Paired {
     Pairs(Partners),
 }
 
-/// What is known of brackets, as far as they were read.
+/// What is known of partners, as far as brackets were read.
 #[derive(Drop)]
-struct Scan {
-    /// Those that are open, the outermost first.
+struct Pairing {
+    /// The brackets that are open, the outermost first.
     stack: Vec<Opened>,
     /// The partners; of one that has none yet its own number.
     partners: Vec<u32>,
-    /// The first flaw, but for those that are never closed.
-    first: Option<Flawed>,
-}
-
-fn told(first: Option<Flawed>, number: u32, flaw: Option<Flaw>) -> Option<Flawed>
-    ensures { result ≡ told first number flaw }
-{
-    match (first, flaw) {
-        (None, Some(flaw)) => Some(Flawed { number, flaw }),
-        _ => first,
-    }
 }
 
 /// Notes that a token pairs with an earlier one, or that none is known.
@@ -88,38 +78,47 @@ fn note(partners: &mut Vec<u32>, number: u32, partner: Option<u32>) -> Result<()
     Ok(())
 }
 
-impl Scan {
+impl Pairing {
     /// Goes past the next token.
     fn take(&mut self, tokens: &[JToken], number: usize) -> Result<(), NoMemory>
         requires within { number < length tokens.now }
         requires few { length tokens.now < 2 ^ 32 }
-        requires scan { IsScan (seen tokens.now) number self.old }
-        ensures { IfOk result (λ _. IsScan (seen tokens.now) (suc number) self.new) }
+        requires pairing { IsPairing (seen tokens.now) number self.old }
+        ensures { IfOk result (λ _. IsPairing (seen tokens.now) (suc number) self.new) }
     {
         let bracket = bracket_of(&tokens[number]);
         let number = number as u32;
         let partner = closed_by(&self.stack, bracket);
-        let flaw = flaw_of(&self.stack, bracket, partner);
-        self.first = told(self.first, number, flaw);
         note(&mut self.partners, number, partner)?;
         pass(&mut self.stack, number, bracket, partner)?;
         Ok(())
     }
 }
 
-fn scanned(alloc: Global, tokens: &[JToken]) -> Result<Scan, NoMemory>
+fn pairing_of(alloc: Global, tokens: &[JToken]) -> Result<Pairing, NoMemory>
     requires { length tokens.now < 2 ^ 32 }
-    ensures { IfOk result (λ s. IsScan (seen tokens.now) (length tokens.now) s) }
+    ensures { IfOk result (λ p. IsPairing (seen tokens.now) (length tokens.now) p) }
 {
-    let mut scan = Scan {
+    let mut pairing = Pairing {
         stack: Vec::new(alloc),
         partners: Vec::new(alloc),
-        first: None,
     };
     for number in 0..tokens.len() {
-        scan.take(tokens, number)?;
+        pairing.take(tokens, number)?;
     }
-    Ok(scan)
+    Ok(pairing)
+}
+
+/// The partners of a file's brackets, none of which is at fault.
+fn partners_of(alloc: Global, tokens: &[JToken]) -> Result<Partners, NoMemory>
+    requires few { length tokens.now < 2 ^ 32 }
+    requires whole { IsFirstFlaw (seen tokens.now) None }
+    ensures { IfOk result (λ p. Partnered (seen tokens.now) p) }
+{
+    let pairing = pairing_of(alloc, tokens)?;
+    Ok(Partners {
+        numbers: pairing.partners,
+    })
 }
 
 /// The partners of a file's brackets, or the first bracket at fault. A bracket pairs with the
@@ -129,11 +128,8 @@ pub fn pairs(alloc: Global, tokens: &[JToken]) -> Result<Paired, NoMemory>
     requires { length tokens.now < 2 ^ 32 }
     ensures { IfOk result (λ p. IsPaired (seen tokens.now) p) }
 {
-    let scan = scanned(alloc, tokens)?;
-    match first_flaw(&scan.stack, scan.first) {
+    match first_flaw(alloc, tokens)? {
         Some(flawed) => Ok(Paired::Flawed(flawed)),
-        None => Ok(Paired::Pairs(Partners {
-            numbers: scan.partners,
-        })),
+        None => Ok(Paired::Pairs(partners_of(alloc, tokens)?)),
     }
 }

@@ -111,8 +111,8 @@ pub fn flaw_of(stack: &[Opened], bracket: Bracket, partner: Option<u32>) -> Opti
 }
 
 /// The first of the flaws of the brackets that are left open and the first of the others.
-pub fn first_flaw(left: &[Opened], seen: Option<Flawed>) -> Option<Flawed>
-    ensures { result ≡ s.first_flaw left.now seen }
+pub fn least_flaw(left: &[Opened], seen: Option<Flawed>) -> Option<Flawed>
+    ensures { result ≡ s.least_flaw left.now seen }
 {
     let Some(outermost) = left.first() else {
         return seen;

@@ -8,6 +8,3 @@ mod scans;
 
 pub use letters::{Cursor, Ending, Front, digit, front_at, start};
 pub use scans::{head_at, place_at, skip, tail_at};
-
-#[cfg(test)]
-mod tests;

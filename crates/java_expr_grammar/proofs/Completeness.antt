@@ -478,7 +478,7 @@ module _ (d : ℕ) (again : Again d) where
   types = r.type_read d
 
   abbrev base : Reader JType
-  base = r.base_read d
+  base = r.base_read (suc d)
 
   abbrev typed : Reader JTypedParam
   typed = r.typed_read d
@@ -693,11 +693,11 @@ module _ (d : ℕ) (again : Again d) where
   unfolding r.dotted
   square_inferred lb ts = refl
 
-  typed_creation : (at : Position) (of : JType) (mark : Mark) (p : Position) (ts : Tokens) → TypeStands d of → is_array of ≡ false → EndsBase (Token.Sign mark p ∷ ts)
+  typed_creation : (at : Position) (of : JType) (mark : Mark) (p : Position) (ts : Tokens) → TypeStands (suc d) of → is_array of ≡ false → EndsBase (Token.Sign mark p ∷ ts)
       → goes_inferred (Token.Sign mark p ∷ ts) ≡ false
       → r.creation types base typed sub at (type_tokens of ++ Token.Sign mark p ∷ ts) ≡ r.new_of types base typed sub at of (Token.Sign mark p ∷ ts)
   unfolding r.creation
-  typed_creation at of mark p ts s a ends g = rw (type_inferred d of s (Token.Sign mark p ∷ ts) g, base_again d of s a (Token.Sign mark p ∷ ts) ends) refl
+  typed_creation at of mark p ts s a ends g = rw (type_inferred (suc d) of s (Token.Sign mark p ∷ ts) g, base_again (suc d) of s a (Token.Sign mark p ∷ ts) ends) refl
 
   -- A class is no array.
   class_no_array : (x : JType) → is_class x ≡ true → is_array x ≡ false
@@ -707,7 +707,7 @@ module _ (d : ℕ) (again : Again d) where
       layer (JType-F.Array element brackets) h = absurd (cc h)
       layer _ h = refl
 
-  new_again : (at : Position) (made : JCreated) (lp rp : Position) (args : List JExpr) (commas : List Position) (body : Option Span) (rest : Tokens) → created_stands d (TypeStands d) made → AreBetween commas args → AllByRecursion (Stands d any_level) args
+  new_again : (at : Position) (made : JCreated) (lp rp : Position) (args : List JExpr) (commas : List Position) (body : Option Span) (rest : Tokens) → created_stands d made → AreBetween commas args → AllByRecursion (Stands d any_level) args
       → r.creation types base typed sub at (created_tokens made ++ Token.Sign m.OpenRound lp ∷ (listed commas (map tokens args) ++ args_close rp body ∷ rest)) ≡ Some (e.New at made lp args commas rp body, rest)
   unfolding r.creation r.new_inferred
   new_again at (created.Type x) lp rp args commas body rest s b all =
@@ -729,7 +729,7 @@ module _ (d : ℕ) (again : Again d) where
   sized_again at of lb size rb more rest s h =
       rw (part any_level size s (Token.Sign m.CloseSquare rb ∷ (brackets_tokens more ++ rest)) refl, brackets_again more rest (not_pair_after rest h)) refl
 
-  new_array_again : (at : Position) (of : JType) (lb : Position) (size : JExpr) (rb : Position) (more : List JBrackets) (rest : Tokens) → TypeStands d of → is_array of ≡ false → Stands d any_level size → after rest < 33
+  new_array_again : (at : Position) (of : JType) (lb : Position) (size : JExpr) (rb : Position) (more : List JBrackets) (rest : Tokens) → TypeStands (suc d) of → is_array of ≡ false → Stands d any_level size → after rest < 33
       → r.creation types base typed sub at (type_tokens of ++ Token.Sign m.OpenSquare lb ∷ (tokens size ++ Token.Sign m.CloseSquare rb ∷ (brackets_tokens more ++ rest))) ≡ Some (e.NewArray at of lb size rb more, rest)
   new_array_again at of lb size rb more rest k a s h =
       typed_creation at of m.OpenSquare lb _ k a (refl, refl) (square_inferred lb _)
@@ -750,7 +750,7 @@ module _ (d : ℕ) (again : Again d) where
   unfolding r.new_filled
   filled_again at of pairs lc inits commas more rc rest b all = rw (inits_again inits commas more rc rest b all, braces_end_again more rc rest) refl
 
-  new_filled_again : (at : Position) (of : JType) (pairs : List JBrackets) (lc : Position) (inits : List JExpr) (commas : List Position) (more : Option Position) (rc : Position) (rest : Tokens) → TypeStands d of → is_array of ≡ false
+  new_filled_again : (at : Position) (of : JType) (pairs : List JBrackets) (lc : Position) (inits : List JExpr) (commas : List Position) (more : Option Position) (rc : Position) (rest : Tokens) → TypeStands (suc d) of → is_array of ≡ false
       → 1 ≤ length pairs → AreBetween commas inits → AllByRecursion (Stands d init_level) inits
       → r.creation types base typed sub at (type_tokens of ++ (brackets_tokens pairs ++ Token.Sign m.OpenCurly lc ∷ (listed commas (map tokens inits) ++ (trailing more ++ Token.Sign m.CloseCurly rc ∷ rest))))
       ≡ Some (e.NewFilled at of pairs lc inits commas more rc, rest)

@@ -1,5 +1,5 @@
 -- The depth of each form of an expression.
-use Rattle.std.proofs.Common.{◌≡◌, ℕ, suc, max, List, map, Option, refl, ap, sym, ◌∙◌}
+use Rattle.std.proofs.Common.{◌≡◌, ℕ, ◌-◌, suc, max, List, map, Option, refl, ap, sym, ◌∙◌}
 use Rattle.java_tree.specs.declared.tokens.Position.{Position}
 use Rattle.java_tree.specs.declared.exprs.JLiteral.{JLiteral}
 use Rattle.java_tree.specs.declared.exprs.PostfixOp.{PostfixOp}
@@ -84,11 +84,11 @@ pub depth_New : (at : Position) (made : JCreated) (lp : Position) (xs : List JEx
 depth_New at made lp xs ps rp body = layer (JExpr-F.New at made lp xs ps rp body) _ _ (e.rolls-New at made lp xs ps rp body) refl
 
 pub depth_NewArray : (at : Position) (of : JType) (lb : Position) (size : JExpr) (rb : Position) (pairs : List JBrackets)
-    → depth (e.NewArray at of lb size rb pairs) ≡ suc (max (type_depth of) (depth size))
+    → depth (e.NewArray at of lb size rb pairs) ≡ suc (max (type_depth of - 1) (depth size))
 depth_NewArray at of lb size rb pairs = layer (JExpr-F.NewArray at of lb size rb pairs) _ _ (e.rolls-NewArray at of lb size rb pairs) refl
 
 pub depth_NewFilled : (at : Position) (of : JType) (pairs : List JBrackets) (lc : Position) (xs : List JExpr) (ps : List Position) (more : Option Position) (rc : Position)
-    → depth (e.NewFilled at of pairs lc xs ps more rc) ≡ suc (max (type_depth of) (deepest (map depth xs)))
+    → depth (e.NewFilled at of pairs lc xs ps more rc) ≡ suc (max (type_depth of - 1) (deepest (map depth xs)))
 depth_NewFilled at of pairs lc xs ps more rc = layer (JExpr-F.NewFilled at of pairs lc xs ps more rc) _ _ (e.rolls-NewFilled at of pairs lc xs ps more rc) refl
 
 pub depth_Braces : (lc : Position) (xs : List JExpr) (ps : List Position) (more : Option Position) (rc : Position) → depth (e.Braces lc xs ps more rc) ≡ suc (deepest (map depth xs))

@@ -378,8 +378,8 @@ params_skips d (params.One p) s = then_plain refl none
 params_skips d (params.Several lp ps commas rp) s = opened lp rp _ [] (ident_skips ps commas) none
 params_skips d (params.Typed lp ps commas rp) s = opened lp rp _ [] (typed_skips d ps commas s.1) none
 
-created_skips : (d : ℕ) (x : JCreated) → created_stands d (TypeStands d) x → Skips (created_tokens x)
-created_skips d (created.Type x) s = type_skips d x s.0
+created_skips : (d : ℕ) (x : JCreated) → created_stands d x → Skips (created_tokens x)
+created_skips d (created.Type x) s = type_skips (suc d) x s.0
 created_skips d (created.Inferred q lp j close) s = after_both (qualified_skips q) (then_plain refl (then_plain (closing_plain j) none))
 
 trailing_skips : (more : Option Position) → Skips (trailing more)
@@ -416,9 +416,9 @@ module _ (d : ℕ) (h : (l : ℕ) (x : JExpr) → Stands d l x → Skips (tokens
   layer_skips (JExpr-F.LambdaBlock params arrow body) s = after_both (params_skips d params s.0) (then_plain refl none)
   layer_skips (JExpr-F.New at made lp args commas rp body) s = then_plain refl (after_both (created_skips d made s.0) (args_opened lp rp body _ (all_skip any_level commas args s.2)))
   layer_skips (JExpr-F.NewArray at of lb size rb more) s =
-      then_plain refl (after_both (type_skips d of s.0) (then_plain refl (after_both (h _ size s.2) (then_plain refl (brackets_skips more)))))
+      then_plain refl (after_both (type_skips (suc d) of s.0) (then_plain refl (after_both (h _ size s.2) (then_plain refl (brackets_skips more)))))
   layer_skips (JExpr-F.NewFilled at of brackets lc inits commas more rc) s =
-      then_plain refl (after_both (type_skips d of s.0) (after_both (brackets_skips brackets) (braces_skips lc inits commas more rc s.4)))
+      then_plain refl (after_both (type_skips (suc d) of s.0) (after_both (brackets_skips brackets) (braces_skips lc inits commas more rc s.4)))
   layer_skips (JExpr-F.Braces lc inits commas more rc) s = braces_skips lc inits commas more rc s.1
 
 pub skips : (d l : ℕ) (x : JExpr) → Stands d l x → Skips (tokens x)

@@ -81,14 +81,14 @@ braces_end_only _ c e = absurd (cc e)
 
 -- a name with `<` and `>` behind it, which stands where its depth fits
 abbrev Infers : Tokens → JCreated × Tokens → Type 0
-Infers ts c = (ts ≡ created_tokens c.0 ++ c.1) × ((d : ℕ) → created_depth c.0 ≤ d → created_stands d (TypeStands d) c.0)
+Infers ts c = (ts ≡ created_tokens c.0 ++ c.1) × ((d : ℕ) → created_depth c.0 ≤ d → created_stands d c.0)
 
 inferred_by_only : (q : JQualified) (ts : Tokens) (c : JCreated × Tokens) → r.inferred_by q ts ≡ Some c → Infers (qualified_tokens q ++ ts) c
 inferred_by_only q (Token.Sign m.Less lp ∷ rest) c e =
     let a = bind_some (r.closes rest) _ _ e in
     subst (Infers (qualified_tokens q ++ Token.Sign m.Less lp ∷ rest)) (some_same a.2) (
       ap (λ r. qualified_tokens q ++ Token.Sign m.Less lp ∷ r) (closes_only rest a.0 a.1) ∙ sym (append_assoc (qualified_tokens q) (Token.Sign m.Less lp ∷ Token.Sign (closing a.0.0.0) a.0.0.1 ∷ []) a.0.1),
-      λ d h. h,
+      λ d h. tt,
     )
 inferred_by_only q _ c e = absurd (cc e)
 
@@ -218,7 +218,7 @@ unfolding is_left top
 left_is_primary x h = left_layer_primary (out-JExpr x) h
 
 module _ (d : ℕ) (sound : Sounds d) where
-  paren_sound : (lp : Position) (ts : Tokens) (x : JExpr × Tokens) → r.paren (r.type_read d) (r.base_read d) (r.typed_read d) (r.read d) lp ts ≡ Some x → Takes (suc d) 0 (Token.Sign m.OpenRound lp ∷ ts) x
+  paren_sound : (lp : Position) (ts : Tokens) (x : JExpr × Tokens) → r.paren (r.type_read d) (r.base_read (suc d)) (r.typed_read d) (r.read d) lp ts ≡ Some x → Takes (suc d) 0 (Token.Sign m.OpenRound lp ∷ ts) x
   unfolding r.paren
   paren_sound lp ts x h =
       let a = bind_some (r.read d any_level ts) _ _ h in
@@ -229,7 +229,7 @@ module _ (d : ℕ) (sound : Sounds d) where
       (omega arith) i.1
 
   -- a lambda after its parameters
-  lambda_body_sound : (ps : JParams) (ts : Tokens) (x : JExpr × Tokens) → params_stand (TypedStands d) ps → r.lambda_body (r.type_read d) (r.base_read d) (r.typed_read d) (r.read d) ps ts ≡ Some x → Takes (suc d) 0 (params_tokens ps ++ ts) x
+  lambda_body_sound : (ps : JParams) (ts : Tokens) (x : JExpr × Tokens) → params_stand (TypedStands d) ps → r.lambda_body (r.type_read d) (r.base_read (suc d)) (r.typed_read d) (r.read d) ps ts ≡ Some x → Takes (suc d) 0 (params_tokens ps ++ ts) x
   unfolding r.lambda_body
   lambda_body_sound ps ts x good h =
       let a = bind_some (r.arrow ts) _ _ h in
@@ -246,7 +246,7 @@ module _ (d : ℕ) (sound : Sounds d) where
       at d 0 (JExpr-F.LambdaBlock ps arrow body) _ x _ rest (e.rolls-LambdaBlock ps arrow body) h
       (sym (append_assoc (params_tokens ps) (Token.ArrowBody arrow body ∷ []) rest)) (omega arith) (good, omega (arith, depth_LambdaBlock ps arrow body))
 
-  lambda_sound : (ps : JParams) (ts : Tokens) (x : JExpr × Tokens) → params_stand (TypedStands d) ps → depth x.0 ≤ suc d → r.lambda (r.type_read d) (r.base_read d) (r.typed_read d) (r.read d) ps ts ≡ Some x → Takes (suc d) 0 (params_tokens ps ++ ts) x
+  lambda_sound : (ps : JParams) (ts : Tokens) (x : JExpr × Tokens) → params_stand (TypedStands d) ps → depth x.0 ≤ suc d → r.lambda (r.type_read d) (r.base_read (suc d)) (r.typed_read d) (r.read d) ps ts ≡ Some x → Takes (suc d) 0 (params_tokens ps ++ ts) x
   unfolding r.lambda
   lambda_sound ps (Token.ArrowBody arrow body ∷ rest) x good fits h = block_sound ps arrow body rest x good fits h
   lambda_sound ps ts x good fits h = lambda_body_sound ps ts x good h
@@ -254,7 +254,7 @@ module _ (d : ℕ) (sound : Sounds d) where
   abbrev Any : JParam → Type 0
   Any p = Unit {0}
 
-  lambda_names_sound : (lp : Position) (ts : Tokens) (x : JExpr × Tokens) → depth x.0 ≤ suc d → r.lambda_names (r.type_read d) (r.base_read d) (r.typed_read d) (r.read d) lp ts ≡ Some x → Takes (suc d) 0 (Token.Sign m.OpenRound lp ∷ ts) x
+  lambda_names_sound : (lp : Position) (ts : Tokens) (x : JExpr × Tokens) → depth x.0 ≤ suc d → r.lambda_names (r.type_read d) (r.base_read (suc d)) (r.typed_read d) (r.read d) lp ts ≡ Some x → Takes (suc d) 0 (Token.Sign m.OpenRound lp ∷ ts) x
   unfolding r.lambda_names
   lambda_names_sound lp ts x fits h =
       let a = bind_some (r.some_by r.comma r.ident ts) _ _ h in
@@ -265,7 +265,7 @@ module _ (d : ℕ) (sound : Sounds d) where
       (all.same ∙ ap (λ r. listed a.0.0.1 (map param_tokens a.0.0.0) ++ r) (close_only _ c.0 c.1) ∙ sym (append_assoc (listed a.0.0.1 (map param_tokens a.0.0.0)) _ c.0.1)) in
       subst (λ ts. Takes (suc d) 0 ts x) (sym text) (lambda_sound ps c.0.1 x (all.full, all.between) fits c.2)
 
-  typed_from_sound : (ts : Tokens) (x : r.Listed JTypedParam × Tokens) → r.typed_from (r.type_read d) (r.base_read d) (r.typed_read d) (r.read d) ts ≡ Some x
+  typed_from_sound : (ts : Tokens) (x : r.Listed JTypedParam × Tokens) → r.typed_from (r.type_read d) (r.base_read (suc d)) (r.typed_read d) (r.read d) ts ≡ Some x
       → (ts ≡ listed x.0.1 (map typed_tokens x.0.0) ++ x.1) × AreBetween x.0.1 x.0.0 × AllByRecursion (TypedStands d) x.0.0
   unfolding r.typed_from
   typed_from_sound ts x h = elim (maybe_is (r.close ts) _ _ _ h) [
@@ -274,10 +274,10 @@ module _ (d : ℕ) (sound : Sounds d) where
         subst P (some_same a.2) (refl, refl, tt))
   ]
 
-  lambda_typed_sound : (lp : Position) (ts : Tokens) (x : JExpr × Tokens) → depth x.0 ≤ suc d → r.lambda_typed (r.type_read d) (r.base_read d) (r.typed_read d) (r.read d) lp ts ≡ Some x → Takes (suc d) 0 (Token.Sign m.OpenRound lp ∷ ts) x
+  lambda_typed_sound : (lp : Position) (ts : Tokens) (x : JExpr × Tokens) → depth x.0 ≤ suc d → r.lambda_typed (r.type_read d) (r.base_read (suc d)) (r.typed_read d) (r.read d) lp ts ≡ Some x → Takes (suc d) 0 (Token.Sign m.OpenRound lp ∷ ts) x
   unfolding r.lambda_typed
   lambda_typed_sound lp ts x fits h =
-      let a = bind_some (r.typed_from (r.type_read d) (r.base_read d) (r.typed_read d) (r.read d) ts) _ _ h in
+      let a = bind_some (r.typed_from (r.type_read d) (r.base_read (suc d)) (r.typed_read d) (r.read d) ts) _ _ h in
       let c = bind_some (r.close a.0.1) _ _ a.2 in
       let i = typed_from_sound ts a.0 a.1 in
       let ps = params.Typed lp a.0.0.0 a.0.0.1 c.0.0 in
@@ -285,9 +285,9 @@ module _ (d : ℕ) (sound : Sounds d) where
       (i.0 ∙ ap (λ r. listed a.0.0.1 (map typed_tokens a.0.0.0) ++ r) (close_only _ c.0 c.1) ∙ sym (append_assoc (listed a.0.0.1 (map typed_tokens a.0.0.0)) _ c.0.1)) in
       subst (λ ts. Takes (suc d) 0 ts x) (sym text) (lambda_sound ps c.0.1 x (i.1, i.2) fits c.2)
 
-  lambda_of_sound : (lp : Position) (ts : Tokens) (x : JExpr × Tokens) → depth x.0 ≤ suc d → r.lambda_of (r.type_read d) (r.base_read d) (r.typed_read d) (r.read d) lp ts ≡ Some x → Takes (suc d) 0 (Token.Sign m.OpenRound lp ∷ ts) x
+  lambda_of_sound : (lp : Position) (ts : Tokens) (x : JExpr × Tokens) → depth x.0 ≤ suc d → r.lambda_of (r.type_read d) (r.base_read (suc d)) (r.typed_read d) (r.read d) lp ts ≡ Some x → Takes (suc d) 0 (Token.Sign m.OpenRound lp ∷ ts) x
   unfolding r.lambda_of
-  lambda_of_sound lp ts x fits h = elim (cond_is (r.begins_names ts) (r.lambda_names (r.type_read d) (r.base_read d) (r.typed_read d) (r.read d) lp ts) (r.lambda_typed (r.type_read d) (r.base_read d) (r.typed_read d) (r.read d) lp ts) (Some x) h) [
+  lambda_of_sound lp ts x fits h = elim (cond_is (r.begins_names ts) (r.lambda_names (r.type_read d) (r.base_read (suc d)) (r.typed_read d) (r.read d) lp ts) (r.lambda_typed (r.type_read d) (r.base_read (suc d)) (r.typed_read d) (r.read d) lp ts) (Some x) h) [
     | inl a ↦ lambda_names_sound lp ts x fits a.1
     | inr a ↦ lambda_typed_sound lp ts x fits a.1
   ]
@@ -297,7 +297,7 @@ module _ (d : ℕ) (sound : Sounds d) where
   cast_fits false true text h e = absurd (cc h)
   cast_fits false false text h e = e
 
-  cast_sound : (lp : Position) (ts : Tokens) (x : JExpr × Tokens) → r.cast (r.type_read d) (r.base_read d) (r.typed_read d) (r.read d) lp ts ≡ Some x → Takes (suc d) 0 (Token.Sign m.OpenRound lp ∷ ts) x
+  cast_sound : (lp : Position) (ts : Tokens) (x : JExpr × Tokens) → r.cast (r.type_read d) (r.base_read (suc d)) (r.typed_read d) (r.read d) lp ts ≡ Some x → Takes (suc d) 0 (Token.Sign m.OpenRound lp ∷ ts) x
   unfolding r.cast r.cast_of
   cast_sound lp ts x h =
       let a = bind_some (r.type_read d ts) _ _ h in
@@ -311,22 +311,22 @@ module _ (d : ℕ) (sound : Sounds d) where
       (omega arith) (k.1, i.1, cast_fits _ _ _ g.0 (sym (sign_same (tokens b.0.0) b.0.1 (first d unary_level b.0.0 (omega arith) i.1)) ∙ ap begins_sign (sym i.0)))
 
   abbrev group_else : Position → Reader JExpr
-  group_else lp ts = if r.is_cast ts then r.cast (r.type_read d) (r.base_read d) (r.typed_read d) (r.read d) lp ts else r.paren (r.type_read d) (r.base_read d) (r.typed_read d) (r.read d) lp ts
+  group_else lp ts = if r.is_cast ts then r.cast (r.type_read d) (r.base_read (suc d)) (r.typed_read d) (r.read d) lp ts else r.paren (r.type_read d) (r.base_read (suc d)) (r.typed_read d) (r.read d) lp ts
 
   else_sound : (lp : Position) (ts : Tokens) (x : JExpr × Tokens) → group_else lp ts ≡ Some x → Takes (suc d) 0 (Token.Sign m.OpenRound lp ∷ ts) x
-  else_sound lp ts x h = elim (cond_is (r.is_cast ts) (r.cast (r.type_read d) (r.base_read d) (r.typed_read d) (r.read d) lp ts) (r.paren (r.type_read d) (r.base_read d) (r.typed_read d) (r.read d) lp ts) (Some x) h) [
+  else_sound lp ts x h = elim (cond_is (r.is_cast ts) (r.cast (r.type_read d) (r.base_read (suc d)) (r.typed_read d) (r.read d) lp ts) (r.paren (r.type_read d) (r.base_read (suc d)) (r.typed_read d) (r.read d) lp ts) (Some x) h) [
     | inl b ↦ cast_sound lp ts x b.1
     | inr b ↦ paren_sound lp ts x b.1
   ]
 
-  group_sound : (lp : Position) (ts : Tokens) (x : JExpr × Tokens) → depth x.0 ≤ suc d → r.group (r.type_read d) (r.base_read d) (r.typed_read d) (r.read d) lp ts ≡ Some x → Takes (suc d) 0 (Token.Sign m.OpenRound lp ∷ ts) x
+  group_sound : (lp : Position) (ts : Tokens) (x : JExpr × Tokens) → depth x.0 ≤ suc d → r.group (r.type_read d) (r.base_read (suc d)) (r.typed_read d) (r.read d) lp ts ≡ Some x → Takes (suc d) 0 (Token.Sign m.OpenRound lp ∷ ts) x
   unfolding r.group
-  group_sound lp ts x fits h = elim (cond_is (r.begins_arrow (r.after_close 0 ts)) (r.lambda_of (r.type_read d) (r.base_read d) (r.typed_read d) (r.read d) lp ts) (group_else lp ts) (Some x) h) [
+  group_sound lp ts x fits h = elim (cond_is (r.begins_arrow (r.after_close 0 ts)) (r.lambda_of (r.type_read d) (r.base_read (suc d)) (r.typed_read d) (r.read d) lp ts) (group_else lp ts) (Some x) h) [
     | inl a ↦ lambda_of_sound lp ts x fits a.1
     | inr a ↦ else_sound lp ts x a.1
   ]
 
-  pub args_sound : (ts : Tokens) (x : r.Listed JExpr × Tokens) → r.args_from (r.type_read d) (r.base_read d) (r.typed_read d) (r.read d) ts ≡ Some x
+  pub args_sound : (ts : Tokens) (x : r.Listed JExpr × Tokens) → r.args_from (r.type_read d) (r.base_read (suc d)) (r.typed_read d) (r.read d) ts ≡ Some x
       → (ts ≡ listed x.0.1 (map tokens x.0.0) ++ x.1) × AreBetween x.0.1 x.0.0 × AllByRecursion (Stands d any_level) x.0.0
   unfolding r.args_from
   args_sound ts x h = elim (maybe_is (r.args_end ts) _ _ _ h) [
@@ -335,10 +335,10 @@ module _ (d : ℕ) (sound : Sounds d) where
         subst P (some_same a.2) (refl, refl, tt))
   ]
 
-  call_sound : (n : List ℕ) (id lp : Position) (ts : Tokens) (x : JExpr × Tokens) → r.call (r.type_read d) (r.base_read d) (r.typed_read d) (r.read d) n id lp ts ≡ Some x → Takes (suc d) 0 (Token.Id n id ∷ Token.Sign m.OpenRound lp ∷ ts) x
+  call_sound : (n : List ℕ) (id lp : Position) (ts : Tokens) (x : JExpr × Tokens) → r.call (r.type_read d) (r.base_read (suc d)) (r.typed_read d) (r.read d) n id lp ts ≡ Some x → Takes (suc d) 0 (Token.Id n id ∷ Token.Sign m.OpenRound lp ∷ ts) x
   unfolding r.call
   call_sound n id lp ts x h =
-      let a = bind_some (r.args_from (r.type_read d) (r.base_read d) (r.typed_read d) (r.read d) ts) _ _ h in
+      let a = bind_some (r.args_from (r.type_read d) (r.base_read (suc d)) (r.typed_read d) (r.read d) ts) _ _ h in
       let c = bind_some (r.close a.0.1) _ _ a.2 in
       let i = args_sound ts a.0 a.1 in
       at d 0 (JExpr-F.Call n id lp a.0.0.0 a.0.0.1 c.0.0) _ x _ c.0.1 (e.rolls-Call n id lp a.0.0.0 a.0.0.1 c.0.0) c.2
@@ -346,11 +346,11 @@ module _ (d : ℕ) (sound : Sounds d) where
       (i.0 ∙ ap (λ r. listed a.0.0.1 (map tokens a.0.0.0) ++ r) (close_only _ c.0 c.1) ∙ sym (append_assoc (listed a.0.0.1 (map tokens a.0.0.0)) _ c.0.1)))
       (omega arith) (i.1, i.2)
 
-  super_args_sound : (above dot : Position) (n : JParam) (lp : Position) (ts : Tokens) (x : JExpr × Tokens) → r.super_args (r.type_read d) (r.base_read d) (r.typed_read d) (r.read d) above dot n lp ts ≡ Some x
+  super_args_sound : (above dot : Position) (n : JParam) (lp : Position) (ts : Tokens) (x : JExpr × Tokens) → r.super_args (r.type_read d) (r.base_read (suc d)) (r.typed_read d) (r.read d) above dot n lp ts ≡ Some x
       → Takes (suc d) 0 (Token.Word w.Super above ∷ Token.Sign m.Dot dot ∷ Token.Id n.name n.at ∷ Token.Sign m.OpenRound lp ∷ ts) x
   unfolding r.super_args
   super_args_sound above dot n lp ts x h =
-      let a = bind_some (r.args_from (r.type_read d) (r.base_read d) (r.typed_read d) (r.read d) ts) _ _ h in
+      let a = bind_some (r.args_from (r.type_read d) (r.base_read (suc d)) (r.typed_read d) (r.read d) ts) _ _ h in
       let c = bind_some (r.close a.0.1) _ _ a.2 in
       let i = args_sound ts a.0 a.1 in
       at d 0 (JExpr-F.SuperCall above dot n.name n.at lp a.0.0.0 a.0.0.1 c.0.0) _ x _ c.0.1 (e.rolls-SuperCall above dot n.name n.at lp a.0.0.0 a.0.0.1 c.0.0) c.2
@@ -358,7 +358,7 @@ module _ (d : ℕ) (sound : Sounds d) where
       (i.0 ∙ ap (λ r. listed a.0.0.1 (map tokens a.0.0.0) ++ r) (close_only _ c.0 c.1) ∙ sym (append_assoc (listed a.0.0.1 (map tokens a.0.0.0)) _ c.0.1)))
       (omega arith) (i.1, i.2)
 
-  super_sound : (above : Position) (ts : Tokens) (x : JExpr × Tokens) → r.super_call (r.type_read d) (r.base_read d) (r.typed_read d) (r.read d) above ts ≡ Some x → Takes (suc d) 0 (Token.Word w.Super above ∷ ts) x
+  super_sound : (above : Position) (ts : Tokens) (x : JExpr × Tokens) → r.super_call (r.type_read d) (r.base_read (suc d)) (r.typed_read d) (r.read d) above ts ≡ Some x → Takes (suc d) 0 (Token.Word w.Super above ∷ ts) x
   unfolding r.super_call
   super_sound above ts x h =
       let a = bind_some (r.dot ts) _ _ h in
@@ -370,11 +370,11 @@ module _ (d : ℕ) (sound : Sounds d) where
 
   -- ---- what is created
 
-  new_args_sound : (id : Position) (made : JCreated) (lp : Position) (ts : Tokens) (x : JExpr × Tokens) → (created_depth made ≤ d → created_stands d (TypeStands d) made) → depth x.0 ≤ suc d
-      → r.new_args (r.type_read d) (r.base_read d) (r.typed_read d) (r.read d) id made lp ts ≡ Some x → Takes (suc d) 0 (Token.Word w.New id ∷ (created_tokens made ++ Token.Sign m.OpenRound lp ∷ ts)) x
+  new_args_sound : (id : Position) (made : JCreated) (lp : Position) (ts : Tokens) (x : JExpr × Tokens) → (created_depth made ≤ d → created_stands d made) → depth x.0 ≤ suc d
+      → r.new_args (r.type_read d) (r.base_read (suc d)) (r.typed_read d) (r.read d) id made lp ts ≡ Some x → Takes (suc d) 0 (Token.Word w.New id ∷ (created_tokens made ++ Token.Sign m.OpenRound lp ∷ ts)) x
   unfolding r.new_args
   new_args_sound id made lp ts x good fits h =
-      let a = bind_some (r.args_from (r.type_read d) (r.base_read d) (r.typed_read d) (r.read d) ts) _ _ h in
+      let a = bind_some (r.args_from (r.type_read d) (r.base_read (suc d)) (r.typed_read d) (r.read d) ts) _ _ h in
       let c = bind_some (r.args_end a.0.1) _ _ a.2 in
       let i = args_sound ts a.0 a.1 in
       let k : depth (e.New id made lp a.0.0.0 a.0.0.1 c.0.0.0 c.0.0.1) ≤ suc d = subst (λ (z : JExpr × Tokens). depth z.0 ≤ suc d) (sym (some_same c.2)) fits in
@@ -385,7 +385,7 @@ module _ (d : ℕ) (sound : Sounds d) where
       ∙ sym (append_assoc (created_tokens made) _ c.0.1)))
       (omega arith) (good (omega (arith, depth_New id made lp a.0.0.0 a.0.0.1 c.0.0.0 c.0.0.1)), i.1, i.2)
 
-  new_inferred_sound : (id : Position) (ts : Tokens) (x : JExpr × Tokens) → depth x.0 ≤ suc d → r.new_inferred (r.type_read d) (r.base_read d) (r.typed_read d) (r.read d) id ts ≡ Some x → Takes (suc d) 0 (Token.Word w.New id ∷ ts) x
+  new_inferred_sound : (id : Position) (ts : Tokens) (x : JExpr × Tokens) → depth x.0 ≤ suc d → r.new_inferred (r.type_read d) (r.base_read (suc d)) (r.typed_read d) (r.read d) id ts ≡ Some x → Takes (suc d) 0 (Token.Word w.New id ∷ ts) x
   unfolding r.new_inferred
   new_inferred_sound id ts x fits h =
       let a = bind_some (r.inferred ts) _ _ h in
@@ -395,8 +395,8 @@ module _ (d : ℕ) (sound : Sounds d) where
       ap (λ r. Token.Word w.New id ∷ r) (i.0 ∙ ap (λ r. created_tokens a.0.0 ++ r) (open_round_only _ c.0 c.1)) in
       subst (λ ts. Takes (suc d) 0 ts x) (sym text) (new_args_sound id a.0.0 c.0.0 c.0.1 x (i.1 d) fits c.2)
 
-  new_sized_sound : (id : Position) (of : JType) (lb : Position) (ts : Tokens) (x : JExpr × Tokens) → TypeStands d of → is_array of ≡ false
-      → r.new_sized (r.type_read d) (r.base_read d) (r.typed_read d) (r.read d) id of lb ts ≡ Some x → Takes (suc d) 0 (Token.Word w.New id ∷ (type_tokens of ++ Token.Sign m.OpenSquare lb ∷ ts)) x
+  new_sized_sound : (id : Position) (of : JType) (lb : Position) (ts : Tokens) (x : JExpr × Tokens) → TypeStands (suc d) of → is_array of ≡ false
+      → r.new_sized (r.type_read d) (r.base_read (suc d)) (r.typed_read d) (r.read d) id of lb ts ≡ Some x → Takes (suc d) 0 (Token.Word w.New id ∷ (type_tokens of ++ Token.Sign m.OpenSquare lb ∷ ts)) x
   unfolding r.new_sized
   new_sized_sound id of lb ts x good flat h =
       let a = bind_some (r.read d any_level ts) _ _ h in
@@ -410,7 +410,7 @@ module _ (d : ℕ) (sound : Sounds d) where
       ∙ sym (append_assoc (type_tokens of) _ more.1)))
       (omega arith) (good, flat, i.1)
 
-  inits_sound : (ts : Tokens) (x : r.Listed JExpr × Tokens) → r.inits (r.type_read d) (r.base_read d) (r.typed_read d) (r.read d) ts ≡ Some x
+  inits_sound : (ts : Tokens) (x : r.Listed JExpr × Tokens) → r.inits (r.type_read d) (r.base_read (suc d)) (r.typed_read d) (r.read d) ts ≡ Some x
       → (ts ≡ listed x.0.1 (map tokens x.0.0) ++ x.1) × AreBetween x.0.1 x.0.0 × AllByRecursion (Stands d init_level) x.0.0
   unfolding r.inits
   inits_sound ts x h = elim (maybe_is (r.braces_end ts) _ _ _ h) [
@@ -427,12 +427,12 @@ module _ (d : ℕ) (sound : Sounds d) where
   braces_text lc ts rest texts ps more rc us items ends =
       ap (λ r. Token.Sign m.OpenCurly lc ∷ r) (items ∙ ap (λ r. listed ps texts ++ r) ends ∙ sym (three (listed ps texts) (trailing more) (Token.Sign m.CloseCurly rc ∷ []) rest))
 
-  new_filled_sound : (id : Position) (of : JType) (pairs : List JBrackets) (ts : Tokens) (x : JExpr × Tokens) → TypeStands d of → is_array of ≡ false → 1 ≤ length pairs
-      → r.new_filled (r.type_read d) (r.base_read d) (r.typed_read d) (r.read d) id of pairs ts ≡ Some x → Takes (suc d) 0 (Token.Word w.New id ∷ (type_tokens of ++ (brackets_tokens pairs ++ ts))) x
+  new_filled_sound : (id : Position) (of : JType) (pairs : List JBrackets) (ts : Tokens) (x : JExpr × Tokens) → TypeStands (suc d) of → is_array of ≡ false → 1 ≤ length pairs
+      → r.new_filled (r.type_read d) (r.base_read (suc d)) (r.typed_read d) (r.read d) id of pairs ts ≡ Some x → Takes (suc d) 0 (Token.Word w.New id ∷ (type_tokens of ++ (brackets_tokens pairs ++ ts))) x
   unfolding r.new_filled
   new_filled_sound id of pairs ts x good flat some h =
       let o = bind_some (r.open_curly ts) _ _ h in
-      let a = bind_some (r.inits (r.type_read d) (r.base_read d) (r.typed_read d) (r.read d) o.0.1) _ _ o.2 in
+      let a = bind_some (r.inits (r.type_read d) (r.base_read (suc d)) (r.typed_read d) (r.read d) o.0.1) _ _ o.2 in
       let c = bind_some (r.braces_end a.0.1) _ _ a.2 in
       let i = inits_sound o.0.1 a.0 a.1 in
       let values = braces_tokens o.0.0 (map tokens a.0.0.0) a.0.0.1 c.0.0.0 c.0.0.1 in
@@ -443,38 +443,38 @@ module _ (d : ℕ) (sound : Sounds d) where
       ∙ sym (three (type_tokens of) (brackets_tokens pairs) values c.0.1)))
       (omega arith) (good, flat, some, i.1, i.2)
 
-  new_array_sound : (id : Position) (of : JType) (lb : Position) (ts : Tokens) (x : JExpr × Tokens) → TypeStands d of → is_array of ≡ false
-      → r.new_array (r.type_read d) (r.base_read d) (r.typed_read d) (r.read d) id of lb ts ≡ Some x → Takes (suc d) 0 (Token.Word w.New id ∷ (type_tokens of ++ Token.Sign m.OpenSquare lb ∷ ts)) x
+  new_array_sound : (id : Position) (of : JType) (lb : Position) (ts : Tokens) (x : JExpr × Tokens) → TypeStands (suc d) of → is_array of ≡ false
+      → r.new_array (r.type_read d) (r.base_read (suc d)) (r.typed_read d) (r.read d) id of lb ts ≡ Some x → Takes (suc d) 0 (Token.Word w.New id ∷ (type_tokens of ++ Token.Sign m.OpenSquare lb ∷ ts)) x
   new_array_sound id of lb (Token.Sign m.CloseSquare rb ∷ rest) x good flat h =
       subst (λ us. Takes (suc d) 0 (Token.Word w.New id ∷ (type_tokens of ++ Token.Sign m.OpenSquare lb ∷ Token.Sign m.CloseSquare rb ∷ us)) x) (sym (brackets_sound rest))
       (new_filled_sound id of (record { opens = lb; closes = rb } ∷ (r.brackets rest).0) (r.brackets rest).1 x good flat (omega arith) h)
   new_array_sound id of lb ts x good flat h = new_sized_sound id of lb ts x good flat h
 
-  new_of_sound : (id : Position) (of : JType) (ts : Tokens) (x : JExpr × Tokens) → TypeStands d of → is_array of ≡ false → depth x.0 ≤ suc d
-      → r.new_of (r.type_read d) (r.base_read d) (r.typed_read d) (r.read d) id of ts ≡ Some x → Takes (suc d) 0 (Token.Word w.New id ∷ (type_tokens of ++ ts)) x
+  new_of_sound : (id : Position) (of : JType) (ts : Tokens) (x : JExpr × Tokens) → TypeStands (suc d) of → is_array of ≡ false → depth x.0 ≤ suc d
+      → r.new_of (r.type_read d) (r.base_read (suc d)) (r.typed_read d) (r.read d) id of ts ≡ Some x → Takes (suc d) 0 (Token.Word w.New id ∷ (type_tokens of ++ ts)) x
   new_of_sound id of (Token.Sign m.OpenRound lp ∷ rest) x good flat fits h =
-      let g = guard_some (is_class of) (r.new_args (r.type_read d) (r.base_read d) (r.typed_read d) (r.read d) id (created.Type of) lp rest) x h in
+      let g = guard_some (is_class of) (r.new_args (r.type_read d) (r.base_read (suc d)) (r.typed_read d) (r.read d) id (created.Type of) lp rest) x h in
       new_args_sound id (created.Type of) lp rest x (λ k. (good, g.0)) fits g.1
   new_of_sound id of (Token.Sign m.OpenSquare lb ∷ rest) x good flat fits h = new_array_sound id of lb rest x good flat h
   new_of_sound id of _ x good flat fits h = absurd (cc h)
 
-  new_base_sound : (id : Position) (ts : Tokens) (x : JExpr × Tokens) → depth x.0 ≤ suc d → (r.base_read d ts >>= λ x. r.new_of (r.type_read d) (r.base_read d) (r.typed_read d) (r.read d) id x.0 x.1) ≡ Some x → Takes (suc d) 0 (Token.Word w.New id ∷ ts) x
+  new_base_sound : (id : Position) (ts : Tokens) (x : JExpr × Tokens) → depth x.0 ≤ suc d → (r.base_read (suc d) ts >>= λ x. r.new_of (r.type_read d) (r.base_read (suc d)) (r.typed_read d) (r.read d) id x.0 x.1) ≡ Some x → Takes (suc d) 0 (Token.Word w.New id ∷ ts) x
   new_base_sound id ts x fits h =
-      let a = bind_some (r.base_read d ts) _ _ h in
-      let k = base_sound d ts a.0 a.1 in
+      let a = bind_some (r.base_read (suc d) ts) _ _ h in
+      let k = base_sound (suc d) ts a.0 a.1 in
       subst (λ us. Takes (suc d) 0 (Token.Word w.New id ∷ us) x) (sym k.0) (new_of_sound id a.0.0 a.0.1 x k.1 k.2 fits a.2)
 
-  creation_sound : (id : Position) (ts : Tokens) (x : JExpr × Tokens) → depth x.0 ≤ suc d → r.creation (r.type_read d) (r.base_read d) (r.typed_read d) (r.read d) id ts ≡ Some x → Takes (suc d) 0 (Token.Word w.New id ∷ ts) x
+  creation_sound : (id : Position) (ts : Tokens) (x : JExpr × Tokens) → depth x.0 ≤ suc d → r.creation (r.type_read d) (r.base_read (suc d)) (r.typed_read d) (r.read d) id ts ≡ Some x → Takes (suc d) 0 (Token.Word w.New id ∷ ts) x
   unfolding r.creation
-  creation_sound id ts x fits h = elim (cond_is (r.begins_inferred ts) (r.new_inferred (r.type_read d) (r.base_read d) (r.typed_read d) (r.read d) id ts) (r.base_read d ts >>= λ x. r.new_of (r.type_read d) (r.base_read d) (r.typed_read d) (r.read d) id x.0 x.1) (Some x) h) [
+  creation_sound id ts x fits h = elim (cond_is (r.begins_inferred ts) (r.new_inferred (r.type_read d) (r.base_read (suc d)) (r.typed_read d) (r.read d) id ts) (r.base_read (suc d) ts >>= λ x. r.new_of (r.type_read d) (r.base_read (suc d)) (r.typed_read d) (r.read d) id x.0 x.1) (Some x) h) [
     | inl a ↦ new_inferred_sound id ts x fits a.1
     | inr a ↦ new_base_sound id ts x fits a.1
   ]
 
-  braces_sound : (lc : Position) (ts : Tokens) (x : JExpr × Tokens) → r.braces (r.type_read d) (r.base_read d) (r.typed_read d) (r.read d) lc ts ≡ Some x → Takes (suc d) 0 (Token.Sign m.OpenCurly lc ∷ ts) x
+  braces_sound : (lc : Position) (ts : Tokens) (x : JExpr × Tokens) → r.braces (r.type_read d) (r.base_read (suc d)) (r.typed_read d) (r.read d) lc ts ≡ Some x → Takes (suc d) 0 (Token.Sign m.OpenCurly lc ∷ ts) x
   unfolding r.braces
   braces_sound lc ts x h =
-      let a = bind_some (r.inits (r.type_read d) (r.base_read d) (r.typed_read d) (r.read d) ts) _ _ h in
+      let a = bind_some (r.inits (r.type_read d) (r.base_read (suc d)) (r.typed_read d) (r.read d) ts) _ _ h in
       let c = bind_some (r.braces_end a.0.1) _ _ a.2 in
       let i = inits_sound ts a.0 a.1 in
       at d 0 (JExpr-F.Braces lc a.0.0.0 a.0.0.1 c.0.0.0 c.0.0.1) _ x _ c.0.1 (e.rolls-Braces lc a.0.0.0 a.0.0.1 c.0.0.0 c.0.0.1) c.2
@@ -483,13 +483,13 @@ module _ (d : ℕ) (sound : Sounds d) where
 
   -- ---- operands
 
-  worded_sound : (word : Keyword) (id : Position) (ts : Tokens) (x : JExpr × Tokens) → depth x.0 ≤ suc d → r.worded (r.type_read d) (r.base_read d) (r.typed_read d) (r.read d) word id ts ≡ Some x → Takes (suc d) 0 (Token.Word word id ∷ ts) x
+  worded_sound : (word : Keyword) (id : Position) (ts : Tokens) (x : JExpr × Tokens) → depth x.0 ≤ suc d → r.worded (r.type_read d) (r.base_read (suc d)) (r.typed_read d) (r.read d) word id ts ≡ Some x → Takes (suc d) 0 (Token.Word word id ∷ ts) x
   worded_sound w.This id ts x fits h = at d 0 (JExpr-F.This id) _ x _ ts (e.rolls-This id) h refl (omega arith) tt
   worded_sound w.Super id ts x fits h = super_sound id ts x h
   worded_sound w.New id ts x fits h = creation_sound id ts x fits h
   worded_sound _ id ts x fits h = absurd (cc h)
 
-  named_sound : (n : List ℕ) (id : Position) (ts : Tokens) (x : JExpr × Tokens) → depth x.0 ≤ suc d → r.named (r.type_read d) (r.base_read d) (r.typed_read d) (r.read d) n id ts ≡ Some x → Takes (suc d) 0 (Token.Id n id ∷ ts) x
+  named_sound : (n : List ℕ) (id : Position) (ts : Tokens) (x : JExpr × Tokens) → depth x.0 ≤ suc d → r.named (r.type_read d) (r.base_read (suc d)) (r.typed_read d) (r.read d) n id ts ≡ Some x → Takes (suc d) 0 (Token.Id n id ∷ ts) x
   unfolding r.named
   named_sound n id (Token.Sign m.OpenRound lp ∷ rest) x fits h = call_sound n id lp rest x h
   named_sound n id (Token.Sign m.Arrow a ∷ rest) x fits h = lambda_sound (params.One (record { name = n; at = id })) (Token.Sign m.Arrow a ∷ rest) x tt fits h
@@ -497,7 +497,7 @@ module _ (d : ℕ) (sound : Sounds d) where
   named_sound n id ts x fits h = at d 0 (JExpr-F.Name n id) _ x _ ts (e.rolls-Name n id) h refl (omega arith) tt
 
   prefixed_sound : (mark : Mark) (o : Option PrefixOp) (p : Position) (ts : Tokens) (x : JExpr × Tokens) → r.prefix_by mark ≡ o
-      → r.prefixed (r.type_read d) (r.base_read d) (r.typed_read d) (r.read d) o p ts ≡ Some x → Takes (suc d) 0 (Token.Sign mark p ∷ ts) x
+      → r.prefixed (r.type_read d) (r.base_read (suc d)) (r.typed_read d) (r.read d) o p ts ≡ Some x → Takes (suc d) 0 (Token.Sign mark p ∷ ts) x
   unfolding r.prefixed
   prefixed_sound mark None p ts x is h = absurd (cc h)
   prefixed_sound mark (Some op) p ts x is h =
@@ -512,9 +512,9 @@ module _ (d : ℕ) (sound : Sounds d) where
       let k : depth (e.MinusLeast minus literal p) ≤ suc d = subst (λ (z : JExpr × Tokens). depth z.0 ≤ suc d) (sym (some_same h)) fits in
       at d 0 (JExpr-F.MinusLeast minus literal p) _ x _ rest (e.rolls-MinusLeast minus literal p) h refl (omega arith) (least, omega (arith, depth_MinusLeast minus literal p))
 
-  minus_sound : (minus : Position) (ts : Tokens) (x : JExpr × Tokens) → depth x.0 ≤ suc d → r.minus (r.type_read d) (r.base_read d) (r.typed_read d) (r.read d) minus ts ≡ Some x → Takes (suc d) 0 (Token.Sign m.Minus minus ∷ ts) x
+  minus_sound : (minus : Position) (ts : Tokens) (x : JExpr × Tokens) → depth x.0 ≤ suc d → r.minus (r.type_read d) (r.base_read (suc d)) (r.typed_read d) (r.read d) minus ts ≡ Some x → Takes (suc d) 0 (Token.Sign m.Minus minus ∷ ts) x
   minus_sound minus (Token.Literal literal p ∷ rest) x fits h =
-      elim (cond_is (is_least literal) (Option.Some (e.MinusLeast minus literal p, rest)) (r.prefixed (r.type_read d) (r.base_read d) (r.typed_read d) (r.read d) (Some prefix.Minus) minus (Token.Literal literal p ∷ rest)) (Some x) h) [
+      elim (cond_is (is_least literal) (Option.Some (e.MinusLeast minus literal p, rest)) (r.prefixed (r.type_read d) (r.base_read (suc d)) (r.typed_read d) (r.read d) (Some prefix.Minus) minus (Token.Literal literal p ∷ rest)) (Some x) h) [
         | inl a ↦ least_sound minus literal p rest x a.0 fits a.1
         | inr a ↦ prefixed_sound m.Minus (Some prefix.Minus) minus (Token.Literal literal p ∷ rest) x refl a.1
       ]
@@ -527,13 +527,13 @@ module _ (d : ℕ) (sound : Sounds d) where
     | inr a ↦ at d 0 (JExpr-F.Literal literal p) _ x _ rest (e.rolls-Literal literal p) a.1 refl (omega arith) a.0
   ]
 
-  marked_sound : (mark : Mark) (p : Position) (ts : Tokens) (x : JExpr × Tokens) → depth x.0 ≤ suc d → r.marked (r.type_read d) (r.base_read d) (r.typed_read d) (r.read d) mark p ts ≡ Some x → Takes (suc d) 0 (Token.Sign mark p ∷ ts) x
+  marked_sound : (mark : Mark) (p : Position) (ts : Tokens) (x : JExpr × Tokens) → depth x.0 ≤ suc d → r.marked (r.type_read d) (r.base_read (suc d)) (r.typed_read d) (r.read d) mark p ts ≡ Some x → Takes (suc d) 0 (Token.Sign mark p ∷ ts) x
   marked_sound m.OpenRound p ts x fits h = group_sound p ts x fits h
   marked_sound m.OpenCurly p ts x fits h = braces_sound p ts x h
   marked_sound m.Minus p ts x fits h = minus_sound p ts x fits h
   marked_sound mark p ts x fits h = prefixed_sound mark (r.prefix_by mark) p ts x refl h
 
-  operand_sound : (ts : Tokens) (x : JExpr × Tokens) → depth x.0 ≤ suc d → r.operand (r.type_read d) (r.base_read d) (r.typed_read d) (r.read d) ts ≡ Some x → Takes (suc d) 0 ts x
+  operand_sound : (ts : Tokens) (x : JExpr × Tokens) → depth x.0 ≤ suc d → r.operand (r.type_read d) (r.base_read (suc d)) (r.typed_read d) (r.read d) ts ≡ Some x → Takes (suc d) 0 ts x
   unfolding r.operand
   operand_sound [] x fits h = absurd (cc h)
   operand_sound (Token.Id n id ∷ rest) x fits h = named_sound n id rest x fits h
@@ -548,7 +548,7 @@ module _ (d : ℕ) (sound : Sounds d) where
   Goes_on s left ts x = Takes (suc d) (r.strength s) (tokens left ++ (suffix_tokens s ++ ts)) x
 
   choice_sound : (left : JExpr) (question : Position) (ts : Tokens) (x : JExpr × Tokens) → Stands d or_level left
-      → r.choice (r.type_read d) (r.base_read d) (r.typed_read d) (r.read d) left question ts ≡ Some x → Takes (suc d) cond_level (tokens left ++ Token.Sign m.Question question ∷ ts) x
+      → r.choice (r.type_read d) (r.base_read (suc d)) (r.typed_read d) (r.read d) left question ts ≡ Some x → Takes (suc d) cond_level (tokens left ++ Token.Sign m.Question question ∷ ts) x
   unfolding r.choice
   choice_sound left question ts x s h =
       let a = bind_some (r.read d any_level ts) _ _ h in
@@ -564,10 +564,10 @@ module _ (d : ℕ) (sound : Sounds d) where
       (omega arith) (s, i.1, k.1)
 
   method_sound : (left : JExpr) (dot : Position) (n : JParam) (lp : Position) (ts : Tokens) (x : JExpr × Tokens) → Stands d primary_level left
-      → r.method (r.type_read d) (r.base_read d) (r.typed_read d) (r.read d) left dot n lp ts ≡ Some x → Takes (suc d) primary_level (tokens left ++ Token.Sign m.Dot dot ∷ Token.Id n.name n.at ∷ Token.Sign m.OpenRound lp ∷ ts) x
+      → r.method (r.type_read d) (r.base_read (suc d)) (r.typed_read d) (r.read d) left dot n lp ts ≡ Some x → Takes (suc d) primary_level (tokens left ++ Token.Sign m.Dot dot ∷ Token.Id n.name n.at ∷ Token.Sign m.OpenRound lp ∷ ts) x
   unfolding r.method
   method_sound left dot n lp ts x s h =
-      let a = bind_some (r.args_from (r.type_read d) (r.base_read d) (r.typed_read d) (r.read d) ts) _ _ h in
+      let a = bind_some (r.args_from (r.type_read d) (r.base_read (suc d)) (r.typed_read d) (r.read d) ts) _ _ h in
       let c = bind_some (r.close a.0.1) _ _ a.2 in
       let i = args_sound ts a.0 a.1 in
       at d primary_level (JExpr-F.Method left dot n.name n.at lp a.0.0.0 a.0.0.1 c.0.0) _ x _ c.0.1 (e.rolls-Method left dot n.name n.at lp a.0.0.0 a.0.0.1 c.0.0) c.2
@@ -583,7 +583,7 @@ module _ (d : ℕ) (sound : Sounds d) where
       (sym (append_assoc (tokens left) _ ts)) (omega arith) s
 
   member_sound : (left : JExpr) (dot : Position) (n : JParam) (ts : Tokens) (x : JExpr × Tokens) → Stands d primary_level left
-      → r.member (r.type_read d) (r.base_read d) (r.typed_read d) (r.read d) left dot n ts ≡ Some x → Takes (suc d) primary_level (tokens left ++ Token.Sign m.Dot dot ∷ Token.Id n.name n.at ∷ ts) x
+      → r.member (r.type_read d) (r.base_read (suc d)) (r.typed_read d) (r.read d) left dot n ts ≡ Some x → Takes (suc d) primary_level (tokens left ++ Token.Sign m.Dot dot ∷ Token.Id n.name n.at ∷ ts) x
   unfolding r.member
   member_sound left dot n (Token.Sign m.OpenRound lp ∷ rest) x s h = method_sound left dot n lp rest x s h
   member_sound left dot n ts x s h = field_sound left dot n ts x s h
@@ -593,7 +593,7 @@ module _ (d : ℕ) (sound : Sounds d) where
   not_true false h = refl
 
   element_sound : (left : JExpr) (lp : Position) (ts : Tokens) (x : JExpr × Tokens) → Stands d primary_level left → is_sized left ≡ false
-      → r.element (r.type_read d) (r.base_read d) (r.typed_read d) (r.read d) left lp ts ≡ Some x → Takes (suc d) primary_level (tokens left ++ Token.Sign m.OpenSquare lp ∷ ts) x
+      → r.element (r.type_read d) (r.base_read (suc d)) (r.typed_read d) (r.read d) left lp ts ≡ Some x → Takes (suc d) primary_level (tokens left ++ Token.Sign m.OpenSquare lp ∷ ts) x
   unfolding r.element
   element_sound left lp ts x s unsized h =
       let a = bind_some (r.read d any_level ts) _ _ h in
@@ -614,7 +614,7 @@ module _ (d : ℕ) (sound : Sounds d) where
       (omega arith) (s, k.1)
 
   finish_sound : (s : Suffix) (l : ℕ) (left : JExpr) (ts : Tokens) (x : JExpr × Tokens) → Stands d l left → r.takes s left ≡ true
-      → r.finish (r.type_read d) (r.base_read d) (r.typed_read d) (r.read d) s left ts ≡ Some x → Goes_on s left ts x
+      → r.finish (r.type_read d) (r.base_read (suc d)) (r.typed_read d) (r.read d) s left ts ≡ Some x → Goes_on s left ts x
   unfolding r.finish
   finish_sound (sx.Binary op p) l left ts x s fits h =
       let b = bind_some (r.read d ((level op + 1)) ts) _ _ h in
@@ -647,14 +647,14 @@ module _ (d : ℕ) (sound : Sounds d) where
   grown_sound : (least : ℕ) (left : JExpr) (ts : Tokens) (s : Suffix × Tokens) (go : JExpr × Tokens → r.Read JExpr) (x : JExpr × Tokens)
       → Stands (suc d) least left → ts ≡ suffix_text s
       → ((y : JExpr × Tokens) → Stands (suc d) least y.0 → go y ≡ Some x → Takes (suc d) least (tokens y.0 ++ y.1) x)
-      → r.grown (r.type_read d) (r.base_read d) (r.typed_read d) (r.read d) d least left ts s go ≡ Some x → Takes (suc d) least (tokens left ++ ts) x
+      → r.grown (r.type_read d) (r.base_read (suc d)) (r.typed_read d) (r.read d) d least left ts s go ≡ Some x → Takes (suc d) least (tokens left ++ ts) x
   unfolding r.grown
   grown_sound least left ts s go x good text next h =
-      elim (cond_is (nat_lt (r.strength s.0) least) (Option.Some (left, ts)) (if r.takes s.0 left && nat_le (depth left) d then r.finish (r.type_read d) (r.base_read d) (r.typed_read d) (r.read d) s.0 left s.1 >>= go else None) (Some x) h) [
+      elim (cond_is (nat_lt (r.strength s.0) least) (Option.Some (left, ts)) (if r.takes s.0 left && nat_le (depth left) d then r.finish (r.type_read d) (r.base_read (suc d)) (r.typed_read d) (r.read d) s.0 left s.1 >>= go else None) (Some x) h) [
         | inl a ↦ stop least left ts x good a.1
-        | inr a ↦ (let g = guard_some (r.takes s.0 left && nat_le (depth left) d) (r.finish (r.type_read d) (r.base_read d) (r.typed_read d) (r.read d) s.0 left s.1 >>= go) x a.1 in
+        | inr a ↦ (let g = guard_some (r.takes s.0 left && nat_le (depth left) d) (r.finish (r.type_read d) (r.base_read (suc d)) (r.typed_read d) (r.read d) s.0 left s.1 >>= go) x a.1 in
             let both = both_true (r.takes s.0 left) (nat_le (depth left) d) g.0 in
-            let f = bind_some (r.finish (r.type_read d) (r.base_read d) (r.typed_read d) (r.read d) s.0 left s.1) go x g.1 in
+            let f = bind_some (r.finish (r.type_read d) (r.base_read (suc d)) (r.typed_read d) (r.read d) s.0 left s.1) go x g.1 in
             let made = finish_sound s.0 least left s.1 f.0 (resize (suc d) d least left good (le_true _ _ both.1)) both.0 f.1 in
             let strong : least ≤ r.strength s.0 = lt_false _ _ a.0 in
             let same : tokens left ++ ts ≡ tokens f.0.0 ++ f.0.1 = ap (λ r. tokens left ++ r) text ∙ made.same in
@@ -663,20 +663,20 @@ module _ (d : ℕ) (sound : Sounds d) where
       ]
 
   climb_sound : (least n : ℕ) (left : JExpr) (ts : Tokens) (x : JExpr × Tokens) → Stands (suc d) least left
-      → r.climb (r.type_read d) (r.base_read d) (r.typed_read d) (r.read d) d least n left ts ≡ Some x → Takes (suc d) least (tokens left ++ ts) x
+      → r.climb (r.type_read d) (r.base_read (suc d)) (r.typed_read d) (r.read d) d least n left ts ≡ Some x → Takes (suc d) least (tokens left ++ ts) x
   unfolding r.climb
   climb_sound least zero left ts x s h = stop least left ts x s h
-  climb_sound least (suc n) left ts x s h = elim (maybe_is (r.suffix ts) (Option.Some (left, ts)) (λ s. r.grown (r.type_read d) (r.base_read d) (r.typed_read d) (r.read d) d least left ts s (λ x. r.climb (r.type_read d) (r.base_read d) (r.typed_read d) (r.read d) d least n x.0 x.1)) (Some x) h) [
+  climb_sound least (suc n) left ts x s h = elim (maybe_is (r.suffix ts) (Option.Some (left, ts)) (λ s. r.grown (r.type_read d) (r.base_read (suc d)) (r.typed_read d) (r.read d) d least left ts s (λ x. r.climb (r.type_read d) (r.base_read (suc d)) (r.typed_read d) (r.read d) d least n x.0 x.1)) (Some x) h) [
     | inl a ↦ stop least left ts x s a.1
-    | inr a ↦ grown_sound least left ts a.0 (λ x. r.climb (r.type_read d) (r.base_read d) (r.typed_read d) (r.read d) d least n x.0 x.1) x s (suffix_only ts a.0 a.1)
+    | inr a ↦ grown_sound least left ts a.0 (λ x. r.climb (r.type_read d) (r.base_read (suc d)) (r.typed_read d) (r.read d) d least n x.0 x.1) x s (suffix_only ts a.0 a.1)
         (λ y good h. climb_sound least n y.0 y.1 x good h) a.2
   ]
 
   read_sound : Sounds (suc d)
   unfolding r.read r.level_read
   read_sound l ts x h =
-      let a = bind_some (r.operand (r.type_read d) (r.base_read d) (r.typed_read d) (r.read d) ts) _ _ h in
-      let g = guard_some (nat_le l (top a.0.0) && nat_le (depth a.0.0) (d + 1)) (r.climb (r.type_read d) (r.base_read d) (r.typed_read d) (r.read d) d l (d + 1) a.0.0 a.0.1) x a.2 in
+      let a = bind_some (r.operand (r.type_read d) (r.base_read (suc d)) (r.typed_read d) (r.read d) ts) _ _ h in
+      let g = guard_some (nat_le l (top a.0.0) && nat_le (depth a.0.0) (d + 1)) (r.climb (r.type_read d) (r.base_read (suc d)) (r.typed_read d) (r.read d) d l (d + 1) a.0.0 a.0.1) x a.2 in
       let both = both_true (nat_le l (top a.0.0)) (nat_le (depth a.0.0) (d + 1)) g.0 in
       let fits : depth a.0.0 ≤ d + 1 = le_true (depth a.0.0) (d + 1) both.1 in
       let i = operand_sound ts a.0 (omega arith) a.1 in

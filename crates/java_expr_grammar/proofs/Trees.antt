@@ -111,13 +111,13 @@ params_resize d e (params.One p) s fits = tt
 params_resize d e (params.Several lp ps commas rp) s fits = s
 params_resize d e (params.Typed lp ps commas rp) s fits = (s.0, all_resized (TypedStands d) (TypedStands e) typed_depth e (typed_resize d e) ps s.1 fits)
 
-created_within : (d : ℕ) (made : JCreated) → created_stands d (TypeStands d) made → created_depth made ≤ d
-created_within d (created.Type x) s = type_within d x s.0
-created_within d (created.Inferred q lp j close) s = s
+created_within : (d : ℕ) (made : JCreated) → created_stands d made → created_depth made ≤ d
+created_within d (created.Type x) s = omega (arith, type_within (suc d) x s.0)
+created_within d (created.Inferred q lp j close) s = omega arith
 
-created_resize : (d e : ℕ) (made : JCreated) → created_stands d (TypeStands d) made → created_depth made ≤ e → created_stands e (TypeStands e) made
-created_resize d e (created.Type x) s fits = (type_resize d e x s.0 fits, s.1)
-created_resize d e (created.Inferred q lp j close) s fits = fits
+created_resize : (d e : ℕ) (made : JCreated) → created_stands d made → created_depth made ≤ e → created_stands e made
+created_resize d e (created.Type x) s fits = (type_resize (suc d) (suc e) x s.0 (omega (arith, fits)), s.1)
+created_resize d e (created.Inferred q lp j close) s fits = tt
 
 -- ---- expressions
 
@@ -170,8 +170,8 @@ layer_within d h (JExpr-F.MinusLeast minus literal at) s = omega (arith, s.1)
 layer_within d h (JExpr-F.Lambda params arrow body) s = let k = h _ body s.1 in omega (arith, k, params_within d params s.0 (omega (arith, k, depth_pos body)))
 layer_within d h (JExpr-F.LambdaBlock params arrow body) s = omega (arith, s.1, params_within d params s.0 s.1)
 layer_within d h (JExpr-F.New at made lp args commas rp body) s = let k : deepest (map depth args) ≤ d = deepest_within (Stands d 1) depth d (h 1) args s.2 in omega (arith, created_within d made s.0)
-layer_within d h (JExpr-F.NewArray at of lb size rb more) s = omega (arith, type_within d of s.0, h _ size s.2)
-layer_within d h (JExpr-F.NewFilled at of brackets lc inits commas more rc) s = let k : deepest (map depth inits) ≤ d = deepest_within (Stands d 0) depth d (h 0) inits s.4 in omega (arith, type_within d of s.0)
+layer_within d h (JExpr-F.NewArray at of lb size rb more) s = omega (arith, type_within (suc d) of s.0, h _ size s.2)
+layer_within d h (JExpr-F.NewFilled at of brackets lc inits commas more rc) s = let k : deepest (map depth inits) ≤ d = deepest_within (Stands d 0) depth d (h 0) inits s.4 in omega (arith, type_within (suc d) of s.0)
 layer_within d h (JExpr-F.Braces lc inits commas more rc) s = let k : deepest (map depth inits) ≤ d = deepest_within (Stands d 0) depth d (h 0) inits s.1 in omega arith
 
 pub within : (d l : ℕ) (x : JExpr) → Stands d l x → depth x ≤ d
@@ -201,8 +201,8 @@ layer_resize d e h (JExpr-F.MinusLeast minus literal at) s fits = (s.0, omega ar
 layer_resize d e h (JExpr-F.Lambda params arrow body) s fits = (params_resize d e params s.0 (omega arith), h _ body s.1 (omega arith))
 layer_resize d e h (JExpr-F.LambdaBlock params arrow body) s fits = (params_resize d e params s.0 (omega arith), omega arith)
 layer_resize d e h (JExpr-F.New at made lp args commas rp body) s fits = (created_resize d e made s.0 (omega arith), s.1, all_resized (Stands d 1) (Stands e 1) depth e (h 1) args s.2 (omega arith))
-layer_resize d e h (JExpr-F.NewArray at of lb size rb more) s fits = (type_resize d e of s.0 (omega arith), s.1, h _ size s.2 (omega arith))
-layer_resize d e h (JExpr-F.NewFilled at of brackets lc inits commas more rc) s fits = (type_resize d e of s.0 (omega arith), s.1, s.2, s.3, all_resized (Stands d 0) (Stands e 0) depth e (h 0) inits s.4 (omega arith))
+layer_resize d e h (JExpr-F.NewArray at of lb size rb more) s fits = (type_resize (suc d) (suc e) of s.0 (omega arith), s.1, h _ size s.2 (omega arith))
+layer_resize d e h (JExpr-F.NewFilled at of brackets lc inits commas more rc) s fits = (type_resize (suc d) (suc e) of s.0 (omega arith), s.1, s.2, s.3, all_resized (Stands d 0) (Stands e 0) depth e (h 0) inits s.4 (omega arith))
 layer_resize d e h (JExpr-F.Braces lc inits commas more rc) s fits = (s.0, all_resized (Stands d 0) (Stands e 0) depth e (h 0) inits s.1 (omega arith))
 
 -- A tree that stands, and whose depth fits a number, stands with that.

@@ -587,7 +587,7 @@ module _ (types base : Reader JType) (typed : Reader JTypedParam) (sub : ℕ →
 -- an expression that stands at the level, with a depth of at most the first number
 unfoldable pub read : ℕ → ℕ → Reader JExpr
 read zero least ts = None
-read (suc d) least ts = level_read (type_read d) (base_read d) (typed_read d) (read d) d least ts
+read (suc d) least ts = level_read (type_read d) (base_read (suc d)) (typed_read d) (read d) d least ts
 
 abbrev pub whole : {A : Type 0} → Read A → Option A
 whole None = None

@@ -11,6 +11,3 @@ pub use writing::{
     put_qualified, put_trailing, put_type, put_typed, put_types, put_word, typed_list,
 };
 pub use written::Written;
-
-#[cfg(test)]
-mod tests;

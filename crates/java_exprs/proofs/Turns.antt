@@ -20,38 +20,38 @@ by_tests go false true left ts None = refl
 by_tests go false true left ts (Some x) = refl
 
 by_suffix : (d least n : ℕ) (left : JExpr) (ts : Tokens) (o : Read Suffix)
-    → maybe o (Some (left, ts)) (λ s. grown (type_read d) (base_read d) (typed_read d) (read d) d least left ts s (λ x. climb (type_read d) (base_read d) (typed_read d) (read d) d least n x.0 x.1))
+    → maybe o (Some (left, ts)) (λ s. grown (type_read d) (base_read (suc d)) (typed_read d) (read d) d least left ts s (λ x. climb (type_read d) (base_read (suc d)) (typed_read d) (read d) d least n x.0 x.1))
     ≡ (maybe o (Some ((false, left), ts)) (λ s. cond (nat_lt (strength s.0) least) (Some ((false, left), ts))
-    (cond (takes s.0 left && nat_le (depth left) d) (finish (type_read d) (base_read d) (typed_read d) (read d) s.0 left s.1 >>= (λ x. Some ((true, x.0), x.1))) None))
-    >>= stepped (λ x. climb (type_read d) (base_read d) (typed_read d) (read d) d least n x.0 x.1))
+    (cond (takes s.0 left && nat_le (depth left) d) (finish (type_read d) (base_read (suc d)) (typed_read d) (read d) s.0 left s.1 >>= (λ x. Some ((true, x.0), x.1))) None))
+    >>= stepped (λ x. climb (type_read d) (base_read (suc d)) (typed_read d) (read d) d least n x.0 x.1))
 unfolding grown
 by_suffix d least n left ts None = refl
-by_suffix d least n left ts (Some s) = by_tests (λ x. climb (type_read d) (base_read d) (typed_read d) (read d) d least n x.0 x.1) (nat_lt (strength s.0) least) (takes s.0 left && nat_le (depth left) d) left ts (finish (type_read d) (base_read d) (typed_read d) (read d) s.0 left s.1)
+by_suffix d least n left ts (Some s) = by_tests (λ x. climb (type_read d) (base_read (suc d)) (typed_read d) (read d) d least n x.0 x.1) (nat_lt (strength s.0) least) (takes s.0 left && nat_le (depth left) d) left ts (finish (type_read d) (base_read (suc d)) (typed_read d) (read d) s.0 left s.1)
 
 pub climb_turn : (d least n : ℕ) (left : JExpr) (ts : Tokens)
-    → climb (type_read d) (base_read d) (typed_read d) (read d) d least (suc n) left ts ≡ (turn d least left ts >>= stepped (λ x. climb (type_read d) (base_read d) (typed_read d) (read d) d least n x.0 x.1))
+    → climb (type_read d) (base_read (suc d)) (typed_read d) (read d) d least (suc n) left ts ≡ (turn d least left ts >>= stepped (λ x. climb (type_read d) (base_read (suc d)) (typed_read d) (read d) d least n x.0 x.1))
 unfolding climb turn
 climb_turn d least n left ts = by_suffix d least n left ts (suffix ts)
 
 pub climb_longer : (d least n : ℕ) (left x : JExpr) (ts rest : Tokens) → turn d least left ts ≡ Some ((true, x), rest)
-    → climb (type_read d) (base_read d) (typed_read d) (read d) d least (suc n) left ts ≡ climb (type_read d) (base_read d) (typed_read d) (read d) d least n x rest
-climb_longer d least n left x ts rest e = climb_turn d least n left ts ∙ ap (λ o. o >>= stepped (λ x. climb (type_read d) (base_read d) (typed_read d) (read d) d least n x.0 x.1)) e
+    → climb (type_read d) (base_read (suc d)) (typed_read d) (read d) d least (suc n) left ts ≡ climb (type_read d) (base_read (suc d)) (typed_read d) (read d) d least n x rest
+climb_longer d least n left x ts rest e = climb_turn d least n left ts ∙ ap (λ o. o >>= stepped (λ x. climb (type_read d) (base_read (suc d)) (typed_read d) (read d) d least n x.0 x.1)) e
 
 pub climb_done : (d least n : ℕ) (left x : JExpr) (ts rest : Tokens) → turn d least left ts ≡ Some ((false, x), rest)
-    → climb (type_read d) (base_read d) (typed_read d) (read d) d least (suc n) left ts ≡ Some (x, rest)
-climb_done d least n left x ts rest e = climb_turn d least n left ts ∙ ap (λ o. o >>= stepped (λ x. climb (type_read d) (base_read d) (typed_read d) (read d) d least n x.0 x.1)) e
+    → climb (type_read d) (base_read (suc d)) (typed_read d) (read d) d least (suc n) left ts ≡ Some (x, rest)
+climb_done d least n left x ts rest e = climb_turn d least n left ts ∙ ap (λ o. o >>= stepped (λ x. climb (type_read d) (base_read (suc d)) (typed_read d) (read d) d least n x.0 x.1)) e
 
 pub climb_stuck : (d least n : ℕ) (left : JExpr) (ts : Tokens) → turn d least left ts ≡ None
-    → climb (type_read d) (base_read d) (typed_read d) (read d) d least (suc n) left ts ≡ None
-climb_stuck d least n left ts e = climb_turn d least n left ts ∙ ap (λ o. o >>= stepped (λ x. climb (type_read d) (base_read d) (typed_read d) (read d) d least n x.0 x.1)) e
+    → climb (type_read d) (base_read (suc d)) (typed_read d) (read d) d least (suc n) left ts ≡ None
+climb_stuck d least n left ts e = climb_turn d least n left ts ∙ ap (λ o. o >>= stepped (λ x. climb (type_read d) (base_read (suc d)) (typed_read d) (read d) d least n x.0 x.1)) e
 
 pub done_turn : (d least n : ℕ) (left x : JExpr) (b : Bool) (ts rest : Tokens) → turn d least left ts ≡ Some ((b, x), rest) → b ≡ false
-    → climb (type_read d) (base_read d) (typed_read d) (read d) d least (suc n) left ts ≡ Some (x, rest)
+    → climb (type_read d) (base_read (suc d)) (typed_read d) (read d) d least (suc n) left ts ≡ Some (x, rest)
 done_turn d least n left x true ts rest e f = absurd (cc f)
 done_turn d least n left x false ts rest e f = climb_done d least n left x ts rest e
 
 pub longer_turn : (d least n : ℕ) (left x : JExpr) (b : Bool) (ts rest : Tokens) → turn d least left ts ≡ Some ((b, x), rest) → b ≡ true
-    → climb (type_read d) (base_read d) (typed_read d) (read d) d least (suc n) left ts ≡ climb (type_read d) (base_read d) (typed_read d) (read d) d least n x rest
+    → climb (type_read d) (base_read (suc d)) (typed_read d) (read d) d least (suc n) left ts ≡ climb (type_read d) (base_read (suc d)) (typed_read d) (read d) d least n x rest
 longer_turn d least n left x true ts rest e f = climb_longer d least n left x ts rest e
 longer_turn d least n left x false ts rest e f = absurd (cc f)
 

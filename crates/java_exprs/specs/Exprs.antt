@@ -10,7 +10,7 @@ use Rattle.java_tree.specs.declared.exprs.JExpr.{JExpr}
 use Rattle.java_tree.specs.declared.exprs.JExpr.TheVariants as e
 use Rattle.java_tree.specs.Seen.{Tokens}
 use Rattle.java_tree.specs.Trees.{depth, deepest, else_level, params_depth, created_depth, is_least}
-use Rattle.java_expr_grammar.specs.Reading.{Read, Reader, Listed, read, ◌>>=◌, maybe, suffix, strength, takes}
+use Rattle.java_expr_grammar.specs.Reading.{Read, Reader, Listed, read, ◌>>=◌, maybe, comma, inner_comma, suffix, strength, takes}
 use Rattle.java_token_cursor.specs.declared.piece.Piece.{Piece}
 use Rattle.java_token_cursor.specs.Shown.{shown}
 use Rattle.java_exprs.specs.declared.found.ExprFound.{ExprFound}
@@ -47,13 +47,18 @@ abbrev pub IsParams : ℕ → Params → Type 0
 IsParams d x = (x.depth ≡ params_depth x.tree) × (x.depth ≤ max d 1)
 
 abbrev pub IsMade : ℕ → Made → Type 0
-IsMade d x = (x.depth ≡ created_depth x.tree) × (x.depth ≤ max d 1)
+IsMade d x = (x.depth ≡ created_depth x.tree) × (x.depth ≤ d)
 
 pub record Nests (d : ℕ) (pre : Global → Bor (List Piece) → ℕ → ℕ → Type 0)
     (post : Global → Bor (List Piece) → ℕ → ℕ → Result (Option (ExprFound × Bor (List Piece))) NoMemory → Type 0) : Type 0 where
   pub callable : (alloc : Global) (ts : Bor (List Piece)) (least : ℕ) → pre alloc ts d least
   pub reads : (alloc : Global) (ts : Bor (List Piece)) (least : ℕ) (x : Result (Option (ExprFound × Bor (List Piece))) NoMemory) → post alloc ts d least x
       → Gives expr_found (ExprFits d) (read d least (shown ts.now)) x
+
+-- the comma between arguments, and the one between values in braces
+abbrev pub separator : Bool → Reader Position
+separator false = comma
+separator true = inner_comma
 
 abbrev pub literal_read : JLiteral → Position → Reader JExpr
 literal_read literal at ts = if is_least literal then None else Some (e.Literal literal at, ts)

@@ -11,7 +11,7 @@ use crate::found::{ExprFound, ExprsFound, Grown};
 use crate::grammar::Grammar;
 use j2k_base::NoMemory;
 use java_token_cursor::Pieces;
-use java_type_parser::{next_suffix, onward, strength, takes, top};
+use java_type_parser::{let_go, next_suffix, onward, strength, takes, top};
 use std::alloc::Global;
 
 impl<
@@ -49,6 +49,7 @@ impl<
             )));
         }
         if !takes(suffix, left.tree.get()) || self.depth < left.depth {
+            let_go(left);
             return Ok(None);
         }
         let Some((found, rest)) = self.finish(suffix, left, rest)? else {
@@ -104,6 +105,7 @@ impl<
             return Ok(None);
         };
         if top(found.tree.get()) < least || self.depth + 1 < found.depth {
+            let_go(found);
             return Ok(None);
         }
         self.climb(least, found, rest)

@@ -15,7 +15,8 @@ use j2k_base::NoMemory;
 use java_token_cursor::{Head, Pieces, braces_end, close_square, first, open_curly, open_round};
 use java_tree::{JBrackets, JCreated, JExpr, Mark, Position};
 use java_type_parser::{
-    TypeFound, begins_inferred, brackets, inferred, is_class, larger, read_base,
+    TypeFound, begins_inferred, brackets, found_or_let_go, inferred, is_class, larger, let_go,
+    read_base,
 };
 use sqlite_items::{Boxed, Items};
 use std::alloc::Global;
@@ -51,10 +52,10 @@ impl<
         requires fits { IsMade self.now.depth made }
         ensures { Gives expr_found (OperandFits self.now.depth) (g.new_args self.now.depth at made.tree lp (shown pieces.now)) result }
     {
-        let Some((args, rest)) = self.args_from(pieces)? else {
-            return Ok(None);
-        };
+        let (args, rest) = found_or_let_go!(self.args_from(pieces), made);
         let Some(((rp, body), rest)) = args_end(rest) else {
+            let_go(made);
+            let_go(args);
             return Ok(None);
         };
         let ExprsFound {
@@ -83,9 +84,10 @@ impl<
             return Ok(None);
         };
         let Some((lp, rest)) = open_round(rest) else {
+            let_go(tree);
             return Ok(None);
         };
-        self.new_args(at, Made { tree, depth: 1 }, lp, rest)
+        self.new_args(at, Made { tree, depth: 0 }, lp, rest)
     }
 
     #[tactic(auto, using(java_expr_grammar::proofs::LawsToCite::expr_parts), unfolding(java_expr_grammar::specs::Reading::new_sized))]
@@ -98,18 +100,22 @@ impl<
     ) -> Result<Option<(ExprFound, Pieces<'a>)>, NoMemory>
         requires nests { Nests self.now.depth (F.pre self.now.read) (F.post self.now.read) }
         requires room { self.now.depth < usize.MAX }
-        requires fits { TypeFits self.now.depth (of, pieces) }
+        requires fits { TypeFits (self.now.depth + 1) (of, pieces) }
         ensures { Gives expr_found (OperandFits self.now.depth) (g.new_sized self.now.depth at of.tree lb (shown pieces.now)) result }
     {
-        let Some((size, rest)) = self.sub(pieces, 1)? else {
-            return Ok(None);
-        };
+        let (size, rest) = found_or_let_go!(self.sub(pieces, 1), of);
         let Some((rb, rest)) = close_square(rest) else {
+            let_go(of);
+            let_go(size);
             return Ok(None);
         };
-        let (more, rest) = brackets(self.alloc, rest)?;
+        let Ok((more, rest)) = brackets(self.alloc, rest) else {
+            let_go(of);
+            let_go(size);
+            return Err(NoMemory);
+        };
         let TypeFound { tree: of, depth } = of;
-        let depth = larger(depth, size.depth) + 1;
+        let depth = larger(depth.saturating_sub(1), size.depth) + 1;
         let tree = JExpr::NewArray(at, of, lb, size.tree, rb, more);
         let tree = Boxed::new(self.alloc, tree)?;
         Ok(Some((ExprFound { tree, depth }, rest)))
@@ -125,16 +131,19 @@ impl<
     ) -> Result<Option<(ExprFound, Pieces<'a>)>, NoMemory>
         requires nests { Nests self.now.depth (F.pre self.now.read) (F.post self.now.read) }
         requires room { self.now.depth < usize.MAX }
-        requires fits { TypeFits self.now.depth (of, pieces) }
+        requires fits { TypeFits (self.now.depth + 1) (of, pieces) }
         ensures { Gives expr_found (OperandFits self.now.depth) (g.new_filled self.now.depth at of.tree pairs (shown pieces.now)) result }
     {
         let Some((lc, rest)) = open_curly(pieces) else {
+            let_go(of);
+            let_go(pairs);
             return Ok(None);
         };
-        let Some((values, rest)) = self.inits(rest)? else {
-            return Ok(None);
-        };
+        let (values, rest) = found_or_let_go!(self.inits(rest), of, pairs);
         let Some(((more, rc), rest)) = braces_end(rest) else {
+            let_go(of);
+            let_go(pairs);
+            let_go(values);
             return Ok(None);
         };
         let ExprsFound {
@@ -143,7 +152,7 @@ impl<
             deepest,
         } = values;
         let TypeFound { tree: of, depth } = of;
-        let depth = larger(depth, deepest) + 1;
+        let depth = larger(depth.saturating_sub(1), deepest) + 1;
         let tree = JExpr::NewFilled(at, of, pairs, lc, items, commas, more, rc);
         let tree = Boxed::new(self.alloc, tree)?;
         Ok(Some((ExprFound { tree, depth }, rest)))
@@ -160,7 +169,7 @@ impl<
     ) -> Result<Option<(ExprFound, Pieces<'a>)>, NoMemory>
         requires nests { Nests self.now.depth (F.pre self.now.read) (F.post self.now.read) }
         requires room { self.now.depth < usize.MAX }
-        requires fits { TypeFits self.now.depth (of, pieces) }
+        requires fits { TypeFits (self.now.depth + 1) (of, pieces) }
         ensures { Gives expr_found (OperandFits self.now.depth) (g.new_array self.now.depth at of.tree lb (shown pieces.now)) result }
     {
         match first(pieces) {
@@ -169,7 +178,10 @@ impl<
                     opens: lb,
                     closes: rb,
                 };
-                let (pairs, rest) = pairs_from(self.alloc, pair, rest)?;
+                let Ok((pairs, rest)) = pairs_from(self.alloc, pair, rest) else {
+                    let_go(of);
+                    return Err(NoMemory);
+                };
                 self.new_filled(at, of, pairs, rest)
             }
             _ => self.new_sized(at, of, lb, pieces),
@@ -187,16 +199,17 @@ impl<
     ) -> Result<Option<(ExprFound, Pieces<'a>)>, NoMemory>
         requires nests { Nests self.now.depth (F.pre self.now.read) (F.post self.now.read) }
         requires room { self.now.depth < usize.MAX }
-        requires fits { TypeFits self.now.depth (of, pieces) }
+        requires fits { TypeFits (self.now.depth + 1) (of, pieces) }
         ensures { Gives expr_found (OperandFits self.now.depth) (new_class self.now.depth at of.tree lp (shown pieces.now)) result }
     {
         if !is_class(&of.tree) {
+            let_go(of);
             return Ok(None);
         }
         let TypeFound { tree, depth } = of;
         let made = Made {
             tree: JCreated::Type(tree),
-            depth,
+            depth: depth.saturating_sub(1),
         };
         self.new_args(at, made, lp, pieces)
     }
@@ -211,13 +224,16 @@ impl<
     ) -> Result<Option<(ExprFound, Pieces<'a>)>, NoMemory>
         requires nests { Nests self.now.depth (F.pre self.now.read) (F.post self.now.read) }
         requires room { self.now.depth < usize.MAX }
-        requires fits { TypeFits self.now.depth (of, pieces) }
+        requires fits { TypeFits (self.now.depth + 1) (of, pieces) }
         ensures { Gives expr_found (OperandFits self.now.depth) (g.new_of self.now.depth at of.tree (shown pieces.now)) result }
     {
         match first(pieces) {
             Head::Mark(Mark::OpenRound, lp, rest) => self.new_class(at, of, lp, rest),
             Head::Mark(Mark::OpenSquare, lb, rest) => self.new_array(at, of, lb, rest),
-            _ => Ok(None),
+            _ => {
+                let_go(of);
+                Ok(None)
+            }
         }
     }
 
@@ -235,7 +251,7 @@ impl<
         if begins_inferred(pieces) {
             return self.new_inferred(at, pieces);
         }
-        let Some((of, rest)) = read_base(self.alloc, pieces, self.depth)? else {
+        let Some((of, rest)) = read_base(self.alloc, pieces, self.depth + 1)? else {
             return Ok(None);
         };
         self.new_of(at, of, rest)
@@ -256,6 +272,7 @@ impl<
             return Ok(None);
         };
         let Some(((more, rc), rest)) = braces_end(rest) else {
+            let_go(values);
             return Ok(None);
         };
         let ExprsFound {

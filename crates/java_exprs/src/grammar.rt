@@ -1,19 +1,19 @@
 //! The reader of parts, and lists of them. The rules take it as a parameter, so that each is proved by itself.
 
 ghost use Rattle.std.specs.Prelude.{◌≡◌, ◌≤◌, ◌<◌, ◌+◌, length, []};
-ghost use Rattle.java_tree.specs.Trees as s;
 ghost use Rattle.java_expr_grammar.specs.Reading as r;
+ghost use Rattle.java_token_cursor.specs.Heads.{Finds};
 ghost use Rattle.java_token_cursor.specs.Shown.{shown};
 ghost use Rattle.java_type_parser.specs.Gives.{Gives};
 ghost use Rattle.java_exprs.specs.Rules as g;
-ghost use Rattle.java_exprs.specs.Exprs.{ExprFits, ExprsFit, expr_found, exprs_found, Nests};
+ghost use Rattle.java_exprs.specs.Exprs.{ExprFits, ExprsFit, expr_found, exprs_found, Nests, separator};
 
 use crate::ends::args_end;
 use crate::found::{ExprFound, ExprsFound};
 use j2k_base::NoMemory;
 use java_token_cursor::{Pieces, braces_end, comma, inner_comma};
 use java_tree::Position;
-use java_type_parser::{larger, onward};
+use java_type_parser::{found_or_let_go, larger, let_go, onward};
 use sqlite_items::Items;
 use std::alloc::Global;
 
@@ -24,6 +24,17 @@ pub struct Grammar<F> {
     pub depth: usize,
     /// Reads parts: the pieces, how deep it may be, and the least level.
     pub read: F,
+}
+
+/// The comma between two parts; in braces one that a part follows.
+fn separator<'a>(in_braces: bool, pieces: Pieces<'a>) -> Option<(Position, Pieces<'a>)>
+    ensures { Finds (separator in_braces (shown pieces.now)) result }
+{
+    if in_braces {
+        inner_comma(pieces)
+    } else {
+        comma(pieces)
+    }
 }
 
 impl<
@@ -54,42 +65,54 @@ impl<
         }
     }
 
+    /// One or more parts of the level `least` or above.
     #[tactic(auto, using(crate::proofs::Lists::lists), unfolding(java_expr_grammar::specs::Reading::some_by))]
-    fn some_args<'a>(
+    fn some<'a>(
         &self,
+        in_braces: bool,
+        least: usize,
         pieces: Pieces<'a>,
     ) -> Result<Option<(ExprsFound, Pieces<'a>)>, NoMemory>
         requires nests { Nests self.now.depth (F.pre self.now.read) (F.post self.now.read) }
-        ensures { Gives exprs_found (ExprsFit self.now.depth) (r.some_by r.comma (r.read self.now.depth s.any_level) (shown pieces.now)) result }
+        ensures { Gives exprs_found (ExprsFit self.now.depth) (r.some_by (separator in_braces) (r.read self.now.depth least) (shown pieces.now)) result }
     {
-        let Some((found, rest)) = self.sub(pieces, 1)? else {
+        let Some((found, rest)) = self.sub(pieces, least)? else {
             return Ok(None);
         };
-        let mut args = self.none();
-        args.items.push(found.tree.into_inner())?;
-        args.deepest = found.depth;
-        self.more_args(args, rest)
+        let mut parts = self.none();
+        let Ok(()) = parts.items.push(found.tree.into_inner()) else {
+            let_go(parts);
+            return Err(NoMemory);
+        };
+        parts.deepest = found.depth;
+        self.more(in_braces, least, parts, rest)
     }
 
     #[tactic(auto, using(java_expr_grammar::proofs::LawsToCite::expr_parts), unfolding(java_expr_grammar::specs::Reading::more_by))]
-    fn more_args<'a>(
+    fn more<'a>(
         &self,
+        in_braces: bool,
+        least: usize,
         mut found: ExprsFound,
         mut pieces: Pieces<'a>,
     ) -> Result<Option<(ExprsFound, Pieces<'a>)>, NoMemory>
         requires nests { Nests self.now.depth (F.pre self.now.read) (F.post self.now.read) }
         requires fits { ExprsFit self.now.depth (found, pieces) }
-        ensures { Gives exprs_found (ExprsFit self.now.depth) (r.more_by r.comma (r.read self.now.depth s.any_level) (length pieces.entry.now) found.items found.commas (shown pieces.entry.now)) result }
+        ensures { Gives exprs_found (ExprsFit self.now.depth) (r.more_by (separator in_braces) (r.read self.now.depth least) (length pieces.entry.now) found.items found.commas (shown pieces.entry.now)) result }
     {
         for _turn in 0..pieces.len() {
-            let Some((at, rest)) = comma(pieces) else {
+            let Some((at, rest)) = separator(in_braces, pieces) else {
                 return Ok(Some((found, pieces)));
             };
-            let Some((next, rest)) = self.sub(rest, 1)? else {
-                return Ok(None);
+            let (next, rest) = found_or_let_go!(self.sub(rest, least), found);
+            let Ok(()) = found.items.push(next.tree.into_inner()) else {
+                let_go(found);
+                return Err(NoMemory);
             };
-            found.items.push(next.tree.into_inner())?;
-            found.commas.push(at)?;
+            let Ok(()) = found.commas.push(at) else {
+                let_go(found);
+                return Err(NoMemory);
+            };
             found.deepest = larger(found.deepest, next.depth);
             pieces = onward(rest);
         }
@@ -108,51 +131,7 @@ impl<
         if args_end(pieces).is_some() {
             return Ok(Some((self.none(), pieces)));
         }
-        self.some_args(pieces)
-    }
-
-    #[tactic(auto, using(crate::proofs::Lists::lists), unfolding(java_expr_grammar::specs::Reading::some_by))]
-    fn some_inits<'a>(
-        &self,
-        pieces: Pieces<'a>,
-    ) -> Result<Option<(ExprsFound, Pieces<'a>)>, NoMemory>
-        requires nests { Nests self.now.depth (F.pre self.now.read) (F.post self.now.read) }
-        requires room { self.now.depth < usize.MAX }
-        ensures { Gives exprs_found (ExprsFit self.now.depth) (r.some_by r.inner_comma (r.read self.now.depth s.init_level) (shown pieces.now)) result }
-    {
-        let Some((found, rest)) = self.sub(pieces, 0)? else {
-            return Ok(None);
-        };
-        let mut values = self.none();
-        values.items.push(found.tree.into_inner())?;
-        values.deepest = found.depth;
-        self.more_inits(values, rest)
-    }
-
-    #[tactic(auto, using(java_expr_grammar::proofs::LawsToCite::expr_parts), unfolding(java_expr_grammar::specs::Reading::more_by))]
-    fn more_inits<'a>(
-        &self,
-        mut found: ExprsFound,
-        mut pieces: Pieces<'a>,
-    ) -> Result<Option<(ExprsFound, Pieces<'a>)>, NoMemory>
-        requires nests { Nests self.now.depth (F.pre self.now.read) (F.post self.now.read) }
-        requires room { self.now.depth < usize.MAX }
-        requires fits { ExprsFit self.now.depth (found, pieces) }
-        ensures { Gives exprs_found (ExprsFit self.now.depth) (r.more_by r.inner_comma (r.read self.now.depth s.init_level) (length pieces.entry.now) found.items found.commas (shown pieces.entry.now)) result }
-    {
-        for _turn in 0..pieces.len() {
-            let Some((at, rest)) = inner_comma(pieces) else {
-                return Ok(Some((found, pieces)));
-            };
-            let Some((next, rest)) = self.sub(rest, 0)? else {
-                return Ok(None);
-            };
-            found.items.push(next.tree.into_inner())?;
-            found.commas.push(at)?;
-            found.deepest = larger(found.deepest, next.depth);
-            pieces = onward(rest);
-        }
-        Ok(Some((found, pieces)))
+        self.some(false, 1, pieces)
     }
 
     /// The values up to the end of the braces.
@@ -168,6 +147,6 @@ impl<
         if braces_end(pieces).is_some() {
             return Ok(Some((self.none(), pieces)));
         }
-        self.some_inits(pieces)
+        self.some(true, 0, pieces)
     }
 }

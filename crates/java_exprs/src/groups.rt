@@ -15,7 +15,7 @@ use java_token_cursor::{Head, Pieces, arrow, close, first};
 use java_tree::{JExpr, JParams, Position, Span};
 use java_type_parser::{
     ParamsFound, TypeFound, TypedsFound, after_close, begins_arrow, begins_names, begins_sign,
-    is_cast, is_primitive, larger, read_type, some_params, typed_from,
+    found_or_let_go, is_cast, is_primitive, larger, let_go, read_type, some_params, typed_from,
 };
 use sqlite_items::Boxed;
 use std::alloc::Global;
@@ -37,6 +37,7 @@ impl<
             return Ok(None);
         };
         let Some((rp, rest)) = close(rest) else {
+            let_go(inner);
             return Ok(None);
         };
         let ExprFound { tree, depth } = inner;
@@ -64,11 +65,13 @@ impl<
             return Ok(None);
         };
         let Some((rp, rest)) = close(rest) else {
+            let_go(to);
             return Ok(None);
         };
         if is_primitive(&to.tree) || !begins_sign(rest) {
             self.cast_of(lp, to, rp, rest)
         } else {
+            let_go(to);
             Ok(None)
         }
     }
@@ -86,9 +89,7 @@ impl<
         requires fits { TypeFits self.now.depth (to, pieces) }
         ensures { Gives expr_found (OperandFits self.now.depth) (g.cast_of self.now.depth lp to.tree rp (shown pieces.now)) result }
     {
-        let Some((inner, rest)) = self.sub(pieces, 14)? else {
-            return Ok(None);
-        };
+        let (inner, rest) = found_or_let_go!(self.sub(pieces, 14), to);
         let TypeFound { tree: to, depth } = to;
         let depth = larger(depth, inner.depth) + 1;
         let tree = Boxed::new(self.alloc, JExpr::Cast(lp, to, rp, inner.tree))?;
@@ -108,11 +109,10 @@ impl<
         ensures { Gives expr_found (OperandFits self.now.depth) (g.lambda_body self.now.depth params.tree (shown pieces.now)) result }
     {
         let Some((at, rest)) = arrow(pieces) else {
+            let_go(params);
             return Ok(None);
         };
-        let Some((body, rest)) = self.sub(rest, 1)? else {
-            return Ok(None);
-        };
+        let (body, rest) = found_or_let_go!(self.sub(rest, 1), params);
         let Params { tree, depth } = params;
         let depth = larger(depth, body.depth) + 1;
         let tree = Boxed::new(self.alloc, JExpr::Lambda(tree, at, body.tree))?;
@@ -171,6 +171,7 @@ impl<
             return Ok(None);
         };
         let Some((rp, rest)) = close(rest) else {
+            let_go(found);
             return Ok(None);
         };
         let ParamsFound { items, commas } = found;
@@ -192,6 +193,7 @@ impl<
             return Ok(None);
         };
         let Some((rp, rest)) = close(rest) else {
+            let_go(found);
             return Ok(None);
         };
         let TypedsFound {

@@ -17,7 +17,7 @@ use crate::grammar::Grammar;
 use j2k_base::{Name, NoMemory};
 use java_token_cursor::{Head, Pieces, close, copied, copied_literal, dot, first, open_round};
 use java_tree::{JExpr, JLiteral, JParam, JParams, Keyword, Mark, Position, PrefixOp, TokenKind};
-use java_type_parser::{ident, is_least, prefix};
+use java_type_parser::{found_or_let_go, ident, is_least, let_go, prefix};
 use sqlite_items::Boxed;
 use std::alloc::Global;
 
@@ -36,10 +36,10 @@ impl<
         requires room { self.now.depth < usize.MAX }
         ensures { Gives expr_found (OperandFits self.now.depth) (g.call self.now.depth name at lp (shown pieces.now)) result }
     {
-        let Some((args, rest)) = self.args_from(pieces)? else {
-            return Ok(None);
-        };
+        let (args, rest) = found_or_let_go!(self.args_from(pieces), name);
         let Some((rp, rest)) = close(rest) else {
+            let_go(name);
+            let_go(args);
             return Ok(None);
         };
         let ExprsFound {
@@ -71,10 +71,10 @@ impl<
         requires room { self.now.depth < usize.MAX }
         ensures { Gives expr_found (OperandFits self.now.depth) (g.super_args self.now.depth above dot name lp (shown pieces.now)) result }
     {
-        let Some((args, rest)) = self.args_from(pieces)? else {
-            return Ok(None);
-        };
+        let (args, rest) = found_or_let_go!(self.args_from(pieces), name);
         let Some((rp, rest)) = close(rest) else {
+            let_go(name);
+            let_go(args);
             return Ok(None);
         };
         let ExprsFound {
@@ -111,6 +111,7 @@ impl<
             return Ok(None);
         };
         let Some((lp, rest)) = open_round(rest) else {
+            let_go(name);
             return Ok(None);
         };
         self.super_args(above, at, name, lp, rest)
@@ -129,6 +130,7 @@ impl<
     {
         let value = copied_literal(self.alloc, kind)?;
         if is_least(&value) {
+            let_go(value);
             return Ok(None);
         }
         let tree = Boxed::new(self.alloc, JExpr::Literal(value, at))?;
@@ -280,6 +282,7 @@ impl<
         if is_least(&value) {
             self.least(minus, value, at, rest)
         } else {
+            let_go(value);
             self.prefixed(PrefixOp::Minus, minus, pieces)
         }
     }

@@ -9,10 +9,9 @@ ghost use Rattle.java_token_cursor.specs.Shown.{shown};
 use crate::climb::read;
 use j2k_base::NoMemory;
 use java_token_cursor::{Pieces, pieces};
-use java_tree::{JExpr, Tokens};
+use java_tree::{JExpr, MAX_DEPTH, Tokens};
+use java_type_parser::let_go;
 use std::alloc::Global;
-
-const MAX_DEPTH: usize = 200;
 
 /// The expression that the pieces spell, no deeper than 200. Pieces spell at most one.
 #[tactic(auto, using(crate::proofs::Parsed::parsed))]
@@ -25,6 +24,7 @@ fn parse_pieces(alloc: Global, pieces: Pieces<'_>) -> Result<Option<JExpr>, NoMe
     if rest.is_empty() {
         Ok(Some(found.tree.into_inner()))
     } else {
+        let_go(found);
         Ok(None)
     }
 }

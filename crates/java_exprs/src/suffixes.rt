@@ -15,7 +15,7 @@ use j2k_base::NoMemory;
 use java_expr_grammar::Suffix;
 use java_token_cursor::{Head, Pieces, close, close_square, colon, first};
 use java_tree::{AssignOp, BinaryOp, JExpr, JParam, Mark, Position, PostfixOp};
-use java_type_parser::{TypeFound, ident, larger, level, read_type};
+use java_type_parser::{TypeFound, found_or_let_go, ident, larger, let_go, level, read_type};
 use sqlite_items::Boxed;
 use std::alloc::Global;
 
@@ -51,9 +51,7 @@ impl<
         requires fits { IsExpr self.now.depth left }
         ensures { Gives expr_found (ExprFits (self.now.depth + 1)) (g.finish self.now.depth (sx.Binary op at) left.tree (shown pieces.now)) result }
     {
-        let Some((right, rest)) = self.sub(pieces, level(op) + 1)? else {
-            return Ok(None);
-        };
+        let (right, rest) = found_or_let_go!(self.sub(pieces, level(op) + 1), left);
         let depth = larger(left.depth, right.depth) + 1;
         let tree = JExpr::Binary(left.tree, op, at, right.tree);
         let tree = Boxed::new(self.alloc, tree)?;
@@ -73,9 +71,7 @@ impl<
         requires fits { IsExpr self.now.depth left }
         ensures { Gives expr_found (ExprFits (self.now.depth + 1)) (g.finish self.now.depth (sx.Assign op at) left.tree (shown pieces.now)) result }
     {
-        let Some((right, rest)) = self.sub(pieces, 1)? else {
-            return Ok(None);
-        };
+        let (right, rest) = found_or_let_go!(self.sub(pieces, 1), left);
         let depth = larger(left.depth, right.depth) + 1;
         let tree = JExpr::Assign(left.tree, op, at, right.tree);
         let tree = Boxed::new(self.alloc, tree)?;
@@ -94,10 +90,10 @@ impl<
         requires fits { IsExpr self.now.depth left }
         ensures { Gives expr_found (ExprFits (self.now.depth + 1)) (g.choice self.now.depth left.tree question (shown pieces.now)) result }
     {
-        let Some((middle, rest)) = self.sub(pieces, 1)? else {
-            return Ok(None);
-        };
+        let (middle, rest) = found_or_let_go!(self.sub(pieces, 1), left);
         let Some((at, rest)) = colon(rest) else {
+            let_go(left);
+            let_go(middle);
             return Ok(None);
         };
         let half = Half {
@@ -122,9 +118,7 @@ impl<
         requires also { IsExpr self.now.depth half.middle }
         ensures { Gives expr_found (ExprFits (self.now.depth + 1)) (else_read (r.read self.now.depth) half.left.tree half.question half.middle.tree half.at (shown pieces.now)) result }
     {
-        let Some((last, rest)) = self.sub(pieces, 2)? else {
-            return Ok(None);
-        };
+        let (last, rest) = found_or_let_go!(self.sub(pieces, 2), half);
         let found = conditional(self.alloc, half, last)?;
         Ok(Some((found, rest)))
     }
@@ -141,9 +135,7 @@ impl<
         requires fits { IsExpr self.now.depth left }
         ensures { Gives expr_found (ExprFits (self.now.depth + 1)) (g.finish self.now.depth (sx.Dot dot) left.tree (shown pieces.now)) result }
     {
-        let Some((name, rest)) = ident(self.alloc, pieces)? else {
-            return Ok(None);
-        };
+        let (name, rest) = found_or_let_go!(ident(self.alloc, pieces), left);
         self.member(left, dot, name, rest)
     }
 
@@ -206,10 +198,11 @@ impl<
         requires fits { IsExpr self.now.depth left }
         ensures { Gives expr_found (ExprFits (self.now.depth + 1)) (g.method self.now.depth left.tree dot name lp (shown pieces.now)) result }
     {
-        let Some((args, rest)) = self.args_from(pieces)? else {
-            return Ok(None);
-        };
+        let (args, rest) = found_or_let_go!(self.args_from(pieces), left, name);
         let Some((rp, rest)) = close(rest) else {
+            let_go(left);
+            let_go(name);
+            let_go(args);
             return Ok(None);
         };
         let ExprsFound {
@@ -236,10 +229,10 @@ impl<
         requires fits { IsExpr self.now.depth left }
         ensures { Gives expr_found (ExprFits (self.now.depth + 1)) (g.element self.now.depth left.tree lp (shown pieces.now)) result }
     {
-        let Some((index, rest)) = self.sub(pieces, 1)? else {
-            return Ok(None);
-        };
+        let (index, rest) = found_or_let_go!(self.sub(pieces, 1), left);
         let Some((rp, rest)) = close_square(rest) else {
+            let_go(left);
+            let_go(index);
             return Ok(None);
         };
         let depth = larger(left.depth, index.depth) + 1;
@@ -285,9 +278,7 @@ impl<
         requires fits { IsExpr self.now.depth left }
         ensures { Gives expr_found (ExprFits (self.now.depth + 1)) (g.finish self.now.depth (sx.Instanceof at) left.tree (shown pieces.now)) result }
     {
-        let Some((to, rest)) = read_type(self.alloc, pieces, self.depth)? else {
-            return Ok(None);
-        };
+        let (to, rest) = found_or_let_go!(read_type(self.alloc, pieces, self.depth), left);
         let TypeFound {
             tree: to,
             depth: other,

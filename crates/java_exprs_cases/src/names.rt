@@ -1,18 +1,18 @@
 //! Types, names and parameters as texts.
 
 use crate::signs::primitive_word;
+use j2k_base::NoMemory;
 use java_tree::{JBrackets, JCreated, JParam, JParams, JQualified, JType, JTypedParam};
-use std::test::Fail;
 
 /// What stands before an item.
-pub fn put_comma(out: &mut String, is_first: bool) -> Result<(), Fail> {
+pub fn put_comma(out: &mut String, is_first: bool) -> Result<(), NoMemory> {
     if !is_first {
         out.push_str(", ")?;
     }
     Ok(())
 }
 
-fn put_qualified(out: &mut String, name: &JQualified) -> Result<(), Fail> {
+fn put_qualified(out: &mut String, name: &JQualified) -> Result<(), NoMemory> {
     out.push_str(name.name.as_str())?;
     for dotted in name.rest.as_slice() {
         out.push('.')?;
@@ -21,7 +21,7 @@ fn put_qualified(out: &mut String, name: &JQualified) -> Result<(), Fail> {
     Ok(())
 }
 
-pub fn put_brackets(out: &mut String, brackets: &[JBrackets]) -> Result<(), Fail> {
+pub fn put_brackets(out: &mut String, brackets: &[JBrackets]) -> Result<(), NoMemory> {
     for _ in brackets {
         out.push_str("[]")?;
     }
@@ -30,7 +30,7 @@ pub fn put_brackets(out: &mut String, brackets: &[JBrackets]) -> Result<(), Fail
 
 /// A type with fewer levels than `room`.
 #[cycle(write_types)]
-fn put_type_within(out: &mut String, x: &JType, room: usize) -> Result<(), Fail> {
+fn put_type_within(out: &mut String, x: &JType, room: usize) -> Result<(), NoMemory> {
     let Some(less) = room.checked_sub(1) else {
         out.push_str("too deep")?;
         return Ok(());
@@ -53,7 +53,7 @@ fn put_type_within(out: &mut String, x: &JType, room: usize) -> Result<(), Fail>
 }
 
 #[cycle(write_types)]
-fn put_types(out: &mut String, items: &[JType], room: usize) -> Result<(), Fail> {
+fn put_types(out: &mut String, items: &[JType], room: usize) -> Result<(), NoMemory> {
     let mut is_first = true;
     for item in items {
         put_comma(out, is_first)?;
@@ -63,11 +63,11 @@ fn put_types(out: &mut String, items: &[JType], room: usize) -> Result<(), Fail>
     Ok(())
 }
 
-pub fn put_type(out: &mut String, x: &JType) -> Result<(), Fail> {
+pub fn put_type(out: &mut String, x: &JType) -> Result<(), NoMemory> {
     put_type_within(out, x, 1000)
 }
 
-pub fn put_created(out: &mut String, x: &JCreated) -> Result<(), Fail> {
+pub fn put_created(out: &mut String, x: &JCreated) -> Result<(), NoMemory> {
     match x {
         JCreated::Type(of) => put_type(out, of),
         JCreated::Inferred(name, _, _, _) => {
@@ -78,7 +78,7 @@ pub fn put_created(out: &mut String, x: &JCreated) -> Result<(), Fail> {
     }
 }
 
-fn put_names(out: &mut String, names: &[JParam]) -> Result<(), Fail> {
+fn put_names(out: &mut String, names: &[JParam]) -> Result<(), NoMemory> {
     let mut is_first = true;
     for param in names {
         put_comma(out, is_first)?;
@@ -88,7 +88,7 @@ fn put_names(out: &mut String, names: &[JParam]) -> Result<(), Fail> {
     Ok(())
 }
 
-fn put_typed(out: &mut String, param: &JTypedParam) -> Result<(), Fail> {
+fn put_typed(out: &mut String, param: &JTypedParam) -> Result<(), NoMemory> {
     if param.is_final.is_some() {
         out.push_str("final ")?;
     }
@@ -98,7 +98,7 @@ fn put_typed(out: &mut String, param: &JTypedParam) -> Result<(), Fail> {
     Ok(())
 }
 
-fn put_all_typed(out: &mut String, params: &[JTypedParam]) -> Result<(), Fail> {
+fn put_all_typed(out: &mut String, params: &[JTypedParam]) -> Result<(), NoMemory> {
     let mut is_first = true;
     for param in params {
         put_comma(out, is_first)?;
@@ -108,7 +108,7 @@ fn put_all_typed(out: &mut String, params: &[JTypedParam]) -> Result<(), Fail> {
     Ok(())
 }
 
-pub fn put_params(out: &mut String, x: &JParams) -> Result<(), Fail> {
+pub fn put_params(out: &mut String, x: &JParams) -> Result<(), NoMemory> {
     match x {
         JParams::One(param) => out.push_str(param.name.as_str())?,
         JParams::Several(_, names, _, _) => {

@@ -2,12 +2,11 @@
 
 use crate::names::{put_brackets, put_comma, put_created, put_params, put_type};
 use crate::signs::{assign_sign, binary_sign, postfix_sign, prefix_sign};
+use j2k_base::NoMemory;
 use java_tree::{JExpr, JLiteral, Position, Span};
-use std::alloc::Global;
 use std::fmt::Write;
-use std::test::Fail;
 
-fn put_literal(out: &mut String, literal: &JLiteral) -> Result<(), Fail> {
+fn put_literal(out: &mut String, literal: &JLiteral) -> Result<(), NoMemory> {
     match literal {
         JLiteral::Integer(value) => write!(out, "{value}")?,
         JLiteral::LeastInteger => write!(out, "int")?,
@@ -39,7 +38,7 @@ fn args_end(body: Option<Span>) -> &'static str {
 }
 
 #[cycle(write_exprs)]
-fn put_created_form(out: &mut String, x: &JExpr, room: usize) -> Result<(), Fail> {
+fn put_created_form(out: &mut String, x: &JExpr, room: usize) -> Result<(), NoMemory> {
     match x {
         JExpr::New(_, made, _, args, _, _, body) => {
             out.push_str("new ")?;
@@ -75,7 +74,7 @@ fn put_created_form(out: &mut String, x: &JExpr, room: usize) -> Result<(), Fail
 }
 
 #[cycle(write_exprs)]
-fn put_call(out: &mut String, x: &JExpr, room: usize) -> Result<(), Fail> {
+fn put_call(out: &mut String, x: &JExpr, room: usize) -> Result<(), NoMemory> {
     match x {
         JExpr::Call(name, _, _, args, _, _) => {
             out.push_str(name.as_str())?;
@@ -104,7 +103,7 @@ fn put_call(out: &mut String, x: &JExpr, room: usize) -> Result<(), Fail> {
 }
 
 #[cycle(write_exprs)]
-fn put_primary(out: &mut String, x: &JExpr, room: usize) -> Result<(), Fail> {
+fn put_primary(out: &mut String, x: &JExpr, room: usize) -> Result<(), NoMemory> {
     match x {
         JExpr::Name(name, _) => out.push_str(name.as_str())?,
         JExpr::Literal(literal, _) => put_literal(out, literal)?,
@@ -131,7 +130,7 @@ fn put_primary(out: &mut String, x: &JExpr, room: usize) -> Result<(), Fail> {
 }
 
 #[cycle(write_exprs)]
-fn put_unary(out: &mut String, x: &JExpr, room: usize) -> Result<(), Fail> {
+fn put_unary(out: &mut String, x: &JExpr, room: usize) -> Result<(), NoMemory> {
     match x {
         JExpr::Postfix(left, op, _) => {
             out.push('(')?;
@@ -163,7 +162,7 @@ fn put_unary(out: &mut String, x: &JExpr, room: usize) -> Result<(), Fail> {
 }
 
 #[cycle(write_exprs)]
-fn put_lambda(out: &mut String, x: &JExpr, room: usize) -> Result<(), Fail> {
+fn put_lambda(out: &mut String, x: &JExpr, room: usize) -> Result<(), NoMemory> {
     match x {
         JExpr::Lambda(params, _, body) => {
             out.push_str("lambda(")?;
@@ -183,7 +182,7 @@ fn put_lambda(out: &mut String, x: &JExpr, room: usize) -> Result<(), Fail> {
 }
 
 #[cycle(write_exprs)]
-fn put_operands(out: &mut String, x: &JExpr, room: usize) -> Result<(), Fail> {
+fn put_operands(out: &mut String, x: &JExpr, room: usize) -> Result<(), NoMemory> {
     match x {
         JExpr::Binary(left, op, _, right) => {
             put_expr(out, left.get(), room)?;
@@ -225,7 +224,7 @@ fn is_infix(x: &JExpr) -> bool {
 
 /// A tree with fewer levels than `room`.
 #[cycle(write_exprs)]
-fn put_expr(out: &mut String, x: &JExpr, room: usize) -> Result<(), Fail> {
+fn put_expr(out: &mut String, x: &JExpr, room: usize) -> Result<(), NoMemory> {
     let Some(less) = room.checked_sub(1) else {
         out.push_str("too deep")?;
         return Ok(());
@@ -240,7 +239,7 @@ fn put_expr(out: &mut String, x: &JExpr, room: usize) -> Result<(), Fail> {
 }
 
 #[cycle(write_exprs)]
-fn put_exprs(out: &mut String, items: &[JExpr], room: usize) -> Result<(), Fail> {
+fn put_exprs(out: &mut String, items: &[JExpr], room: usize) -> Result<(), NoMemory> {
     let mut is_first = true;
     for item in items {
         put_comma(out, is_first)?;
@@ -250,9 +249,8 @@ fn put_exprs(out: &mut String, items: &[JExpr], room: usize) -> Result<(), Fail>
     Ok(())
 }
 
-/// The shape of a tree.
-pub fn shape(alloc: Global, tree: &JExpr) -> Result<String, Fail> {
-    let mut out = String::new(alloc);
-    put_expr(&mut out, tree, 1000)?;
-    Ok(out)
+/// The shape of a tree: each operator with its operands in parentheses, written parentheses as `paren(..)`, a cast as
+/// `cast(int, a)`, a lambda as `lambda(x, a)`, a block as `block`, the body of an anonymous class as ` body`.
+pub fn put_shape(out: &mut String, tree: &JExpr) -> Result<(), NoMemory> {
+    put_expr(out, tree, 1000)
 }

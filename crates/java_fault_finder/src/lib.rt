@@ -12,6 +12,3 @@ mod walk;
 pub use ends::{Run, first_run};
 pub use places::End;
 pub use walk::first_fault;
-
-#[cfg(test)]
-mod tests;

@@ -5,6 +5,3 @@ pub mod laws;
 mod words;
 
 pub use words::{WordKind, word_kind};
-
-#[cfg(test)]
-mod tests;

@@ -12,6 +12,3 @@ mod numbers;
 mod pieces;
 
 pub use lexing::lex;
-
-#[cfg(test)]
-mod tests;

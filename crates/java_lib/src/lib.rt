@@ -11,6 +11,3 @@ mod types;
 pub use classes::{class_row, simple_row};
 pub use members::member_rows;
 pub use rows::{ClassRow, Form, LibKind, LibType, Mark, MemberRow};
-
-#[cfg(test)]
-mod tests;

@@ -72,7 +72,7 @@ open_only (Token.Sign m.OpenRound at ∷ rest) c e = let same : (at, rest) ≡ c
 open_only _ c e = absurd (cc e)
 
 abbrev typed_from : ℕ → Reader (Listed JTypedParam)
-typed_from d = r.typed_from (r.type_read d) (r.base_read d) (r.typed_read d) (r.read d)
+typed_from d = r.typed_from (r.type_read d) (r.base_read (suc d)) (r.typed_read d) (r.read d)
 
 typed_from_sound : (d : ℕ) (ts : Tokens) (x : Listed JTypedParam × Tokens) → typed_from d ts ≡ Some x
     → (ts ≡ listed x.0.1 (map typed_tokens x.0.0) ++ x.1) × AreBetween x.0.1 x.0.0 × AllByRecursion (TypedStands d) x.0.0

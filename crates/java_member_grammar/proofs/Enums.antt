@@ -1,5 +1,5 @@
 -- The constants of an enum: what is read is spelled so, and what is spelled so is read.
-use Rattle.std.proofs.Common.{◌≡◌, ℕ, Bool, true, false, ◌++◌, List, [], ◌∷◌, map, Option, Some, None, inl, inr, refl, ap, sym, ◌∙◌, subst, append_assoc}
+use Rattle.std.proofs.Common.{suc, ◌≡◌, ℕ, Bool, true, false, ◌++◌, List, [], ◌∷◌, map, Option, Some, None, inl, inr, refl, ap, sym, ◌∙◌, subst, append_assoc}
 use Rattle.std.specs.List.{AllByRecursion}
 use Rattle.java_tree.specs.declared.tokens.Position.{Position}
 use Rattle.java_tree.specs.declared.tokens.Mark.TheVariants as m
@@ -22,7 +22,7 @@ of_sound : (d : ℕ) (lp : Position) (ts : Tokens) (x : JArguments × Tokens) �
     → (Token.Sign m.OpenRound lp ∷ ts ≡ arguments_tokens (Some x.0) ++ x.1) × arguments_stand d (Some x.0)
 unfolding arguments_of
 of_sound d lp ts x h =
-    let a = bind_some (r.args_from (r.type_read d) (r.base_read d) (r.typed_read d) (r.read d) ts) _ _ h in
+    let a = bind_some (r.args_from (r.type_read d) (r.base_read (suc d)) (r.typed_read d) (r.read d) ts) _ _ h in
     let c = bind_some (r.close a.0.1) _ _ a.2 in
     let i = args_sound d (sound d) ts a.0 a.1 in
     let items : Tokens = listed a.0.0.1 (map tokens a.0.0.0) in

@@ -83,7 +83,7 @@ type_params d ts = Some (None, ts)
 unfoldable pub formals : ℕ → Reader JFormals
 formals d ts = do
   lp ← open_round ts
-  items ← typed_from (type_read d) (base_read d) (typed_read d) (read d) lp.1
+  items ← typed_from (type_read d) (base_read (suc d)) (typed_read d) (read d) lp.1
   rp ← close items.1
   Some (record { opens = lp.0; items = items.0.0; commas = items.0.1; closes = rp.0 }, rp.1)
 
@@ -201,7 +201,7 @@ import_line _ = None
 
 unfoldable pub arguments_of : ℕ → Position → Reader JArguments
 arguments_of d lp ts = do
-  args ← args_from (type_read d) (base_read d) (typed_read d) (read d) ts
+  args ← args_from (type_read d) (base_read (suc d)) (typed_read d) (read d) ts
   rp ← close args.1
   Some (record { opens = lp; items = args.0.0; commas = args.0.1; closes = rp.0 }, rp.1)
 

@@ -1,5 +1,5 @@
 -- Reading, a step at a time.
-use Rattle.std.proofs.Common.{◌≡◌, ℕ, true, false, if◌then◌else◌, [], ◌∷◌, Option, Some, None, refl}
+use Rattle.std.proofs.Common.{suc, ◌≡◌, ℕ, true, false, if◌then◌else◌, [], ◌∷◌, Option, Some, None, refl}
 use Rattle.java_tree.specs.declared.tokens.Position.{Position}
 use Rattle.java_tree.specs.declared.tokens.Mark.TheVariants as mark
 use Rattle.java_tree.specs.declared.tokens.Keyword.TheVariants as w
@@ -115,7 +115,7 @@ listed lp (Some a) = closed lp a.0 (close a.1)
 
 pub arguments_is : (d : ℕ) (lp : Position) (ts : Tokens) → m.arguments_of d lp ts ≡ (args_read d ts >>= grouped lp)
 unfolding m.arguments_of args_read
-arguments_is d lp ts = listed lp (args_from (type_read d) (base_read d) (typed_read d) (read d) ts)
+arguments_is d lp ts = listed lp (args_from (type_read d) (base_read (suc d)) (typed_read d) (read d) ts)
 
 pub ruleset looks = (call_is, name_is, star_is, package_is, import_is, constants_end_is)
 

@@ -4,33 +4,13 @@ ghost use Rattle.std.specs.Prelude.{◌≡◌};
 ghost use Rattle.java_token_cursor.specs.Heads.{Finds};
 ghost use Rattle.java_token_cursor.specs.Shown.{shown};
 ghost use Rattle.java_expr_grammar.specs.Reading as r;
-ghost use Rattle.java_statement_grammar.specs.Reading as h;
 ghost use Rattle.java_member_grammar.specs.Reading as m;
-ghost use Rattle.java_statement_parser.specs.Found.{is_end};
 ghost use Rattle.java_member_parser.specs.Steps.{only_static, star_at, starred};
 
 use java_member_grammar::JStar;
+use java_statement_parser::at_end;
 use java_token_cursor::{Head, Pieces, comma, dot, first, open_round};
 use java_tree::{Keyword, Mark, Position};
-
-/// Whether no piece is left.
-pub fn at_end<'a>(pieces: Pieces<'a>) -> bool
-    ensures { result ≡ is_end (shown pieces.now) }
-{
-    match first(pieces) {
-        Head::End => true,
-        _ => false,
-    }
-}
-
-pub fn semicolon<'a>(pieces: Pieces<'a>) -> Option<(Position, Pieces<'a>)>
-    ensures { Finds (h.semicolon (shown pieces.now)) result }
-{
-    match first(pieces) {
-        Head::Mark(Mark::Semicolon, at, rest) => Some((at, rest)),
-        _ => None,
-    }
-}
 
 /// The `>` that comes first, and whether another `>` or a `=` stands directly behind it.
 pub fn closes<'a>(pieces: Pieces<'a>) -> Option<((bool, Position), Pieces<'a>)>

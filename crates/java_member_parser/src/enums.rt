@@ -5,19 +5,16 @@ ghost use Rattle.java_token_cursor.specs.Shown.{shown};
 ghost use Rattle.java_type_parser.specs.Gives.{Gives, Always};
 ghost use Rattle.java_expr_grammar.specs.Reading as r;
 ghost use Rattle.java_member_grammar.specs.Reading as m;
-ghost use Rattle.java_statement_parser.specs.Found.{found, same};
-ghost use Rattle.java_member_parser.specs.Found.{constants_found};
+ghost use Rattle.java_statement_parser.specs.Found.{found, listed_found, same};
 ghost use Rattle.java_member_parser.specs.Steps.{end_of};
 
-use crate::begins::{at_end, begins_id, comma_name};
-use crate::found::ConstantsFound;
+use crate::begins::{begins_id, comma_name};
 use j2k_base::NoMemory;
 use java_member_grammar::{JArguments, JConstant, JConstants};
-use java_statement_parser::{ArgsFound, args_read};
+use java_statement_parser::{ArgsFound, ListFound, args_read, at_end};
 use java_token_cursor::{Head, Pieces, comma, first};
 use java_tree::{JParam, Mark, Position};
-use java_type_parser::{ident, onward};
-use sqlite_items::Items;
+use java_type_parser::{found_or_let_go, ident, let_go, onward};
 use std::alloc::Global;
 
 /// Arguments behind their `(`.
@@ -78,9 +75,7 @@ fn constant<'a>(
     let Some((name, rest)) = ident(alloc, pieces)? else {
         return Ok(None);
     };
-    let Some((arguments, rest)) = arguments(alloc, rest, depth)? else {
-        return Ok(None);
-    };
+    let (arguments, rest) = found_or_let_go!(arguments(alloc, rest, depth), name);
     let JParam { name, at } = name;
     let constant = JConstant {
         name,
@@ -96,36 +91,31 @@ fn some_constants<'a>(
     alloc: Global,
     pieces: Pieces<'a>,
     depth: usize,
-) -> Result<Option<(ConstantsFound, Pieces<'a>)>, NoMemory>
-    ensures { Gives constants_found Always (r.some_by m.comma_name (m.constant depth) (shown pieces.now)) result }
+) -> Result<Option<(ListFound<JConstant>, Pieces<'a>)>, NoMemory>
+    ensures { Gives listed_found Always (r.some_by m.comma_name (m.constant depth) (shown pieces.now)) result }
 {
     let Some((constant, rest)) = constant(alloc, pieces, depth)? else {
         return Ok(None);
     };
-    let mut items = Items::new(alloc);
-    items.push(constant)?;
-    let commas = Items::new(alloc);
-    more_constants(alloc, ConstantsFound { items, commas }, rest, depth)
+    let found = ListFound::one(alloc, constant)?;
+    more_constants(alloc, found, rest, depth)
 }
 
 #[tactic(auto, using(java_statement_parser::proofs::LawsToCite::lists), unfolding(java_expr_grammar::specs::Reading::more_by))]
 fn more_constants<'a>(
     alloc: Global,
-    mut found: ConstantsFound,
+    mut found: ListFound<JConstant>,
     mut pieces: Pieces<'a>,
     depth: usize,
-) -> Result<Option<(ConstantsFound, Pieces<'a>)>, NoMemory>
-    ensures { Gives constants_found Always (r.more_by m.comma_name (m.constant depth) (length pieces.entry.now) found.items found.commas (shown pieces.entry.now)) result }
+) -> Result<Option<(ListFound<JConstant>, Pieces<'a>)>, NoMemory>
+    ensures { Gives listed_found Always (r.more_by m.comma_name (m.constant depth) (length pieces.entry.now) found.items found.commas (shown pieces.entry.now)) result }
 {
     for _turn in 0..pieces.len() {
         let Some((at, rest)) = comma_name(pieces) else {
             return Ok(Some((found, pieces)));
         };
-        let Some((next, rest)) = constant(alloc, rest, depth)? else {
-            return Ok(None);
-        };
-        found.items.push(next)?;
-        found.commas.push(at)?;
+        let (next, rest) = found_or_let_go!(constant(alloc, rest, depth), found);
+        found = found.with(at, next)?;
         pieces = onward(rest);
     }
     Ok(Some((found, pieces)))
@@ -137,17 +127,13 @@ fn constant_list<'a>(
     alloc: Global,
     pieces: Pieces<'a>,
     depth: usize,
-) -> Result<Option<(ConstantsFound, Pieces<'a>)>, NoMemory>
-    ensures { Gives constants_found Always (m.constant_list depth (shown pieces.now)) result }
+) -> Result<Option<(ListFound<JConstant>, Pieces<'a>)>, NoMemory>
+    ensures { Gives listed_found Always (m.constant_list depth (shown pieces.now)) result }
 {
     if begins_id(pieces) {
         return some_constants(alloc, pieces, depth);
     }
-    let none = ConstantsFound {
-        items: Items::new(alloc),
-        commas: Items::new(alloc),
-    };
-    Ok(Some((none, pieces)))
+    Ok(Some((ListFound::none(alloc), pieces)))
 }
 
 /// Behind the last comma: a `;` or nothing.
@@ -195,9 +181,10 @@ pub fn constants_read<'a>(
         return Ok(None);
     };
     let Some((more, end)) = constants_end(rest) else {
+        let_go(list);
         return Ok(None);
     };
-    let ConstantsFound { items, commas } = list;
+    let ListFound { items, commas } = list;
     Ok(Some(JConstants {
         items,
         commas,

@@ -8,12 +8,13 @@ ghost use Rattle.java_member_grammar.specs.Reading as m;
 ghost use Rattle.java_statement_parser.specs.Found.{same};
 ghost use Rattle.java_member_parser.specs.Steps.{import_at, package_at};
 
-use crate::begins::{at_end, semicolon, star_first};
+use crate::begins::star_first;
 use j2k_base::NoMemory;
 use java_member_grammar::{JImport, JPackage};
+use java_statement_parser::{at_end, semicolon};
 use java_token_cursor::{Head, Pieces, first};
 use java_tree::{JQualified, Keyword, Position};
-use java_type_parser::qualified;
+use java_type_parser::{let_go, qualified};
 use std::alloc::Global;
 
 /// The line of a package with that name, where a `;` is what is left.
@@ -21,10 +22,14 @@ use std::alloc::Global;
 fn package_by<'a>(at: Position, name: JQualified, pieces: Pieces<'a>) -> Option<JPackage>
     ensures { result ≡ r.whole (m.package_by at (name, shown pieces.now)) }
 {
-    let (end, rest) = semicolon(pieces)?;
+    let Some((end, rest)) = semicolon(pieces) else {
+        let_go(name);
+        return None;
+    };
     if at_end(rest) {
         Some(JPackage { at, name, end })
     } else {
+        let_go(name);
         None
     }
 }
@@ -63,7 +68,10 @@ fn import_by<'a>(at: Position, name: JQualified, pieces: Pieces<'a>) -> Option<J
     ensures { result ≡ r.whole (m.import_by at (name, shown pieces.now)) }
 {
     let (star, rest) = star_first(pieces);
-    let (end, rest) = semicolon(rest)?;
+    let Some((end, rest)) = semicolon(rest) else {
+        let_go(name);
+        return None;
+    };
     if at_end(rest) {
         Some(JImport {
             at,
@@ -72,6 +80,7 @@ fn import_by<'a>(at: Position, name: JQualified, pieces: Pieces<'a>) -> Option<J
             end,
         })
     } else {
+        let_go(name);
         None
     }
 }

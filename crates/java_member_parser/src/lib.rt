@@ -5,7 +5,6 @@
 mod begins;
 mod enums;
 mod files;
-mod found;
 mod heads;
 mod members;
 mod modifiers;
@@ -14,6 +13,3 @@ mod parts;
 mod types;
 
 pub use heads::{before_block, before_semicolon, constants, import_line, package_line, type_head};
-
-#[cfg(test)]
-mod tests;

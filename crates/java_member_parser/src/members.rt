@@ -7,17 +7,17 @@ ghost use Rattle.java_member_grammar.specs.Reading as m;
 ghost use Rattle.java_statement_parser.specs.Found.{found, same};
 ghost use Rattle.java_member_parser.specs.Steps.{called_constructor, called_method, type_member, void_method, whole_member};
 
-use crate::begins::{at_end, begins_call, only_static};
+use crate::begins::{begins_call, only_static};
 use crate::modifiers::modifiers;
 use crate::params::type_params;
 use crate::parts::{formals, throws};
 use j2k_base::NoMemory;
 use java_member_grammar::{JMemberHead, JModifier, JResult, JTypeParams};
-use java_statement_parser::declaration_of;
+use java_statement_parser::{at_end, declaration_of};
 use java_token_cursor::{Head, Pieces, first};
 use java_tree::{JParam, JType, Keyword, Position};
-use java_type_parser::{ident, read_type};
-use sqlite_items::{Boxed, Items};
+use java_type_parser::{found_or_let_go, ident, let_go, read_type};
+use sqlite_items::Items;
 use std::alloc::Global;
 
 /// A constructor behind its modifiers.
@@ -30,15 +30,9 @@ fn constructor<'a>(
 ) -> Result<Option<(JMemberHead, Pieces<'a>)>, NoMemory>
     ensures { Gives found Always (called_constructor depth mods (shown pieces.now)) result }
 {
-    let Some((name, rest)) = ident(alloc, pieces)? else {
-        return Ok(None);
-    };
-    let Some((params, rest)) = formals(alloc, rest, depth)? else {
-        return Ok(None);
-    };
-    let Some((faults, rest)) = throws(alloc, rest, depth)? else {
-        return Ok(None);
-    };
+    let (name, rest) = found_or_let_go!(ident(alloc, pieces), mods);
+    let (params, rest) = found_or_let_go!(formals(alloc, rest, depth), mods, name);
+    let (faults, rest) = found_or_let_go!(throws(alloc, rest, depth), mods, name, params);
     let JParam { name, at } = name;
     let head = JMemberHead::Constructor(mods, name, at, params, faults);
     Ok(Some((head, rest)))
@@ -57,12 +51,21 @@ fn method<'a>(
 ) -> Result<Option<(JMemberHead, Pieces<'a>)>, NoMemory>
     ensures { Gives found Always (m.method depth mods params kind name (shown pieces.now)) result }
 {
-    let Some((parameters, rest)) = formals(alloc, pieces, depth)? else {
-        return Ok(None);
-    };
-    let Some((faults, rest)) = throws(alloc, rest, depth)? else {
-        return Ok(None);
-    };
+    let (parameters, rest) = found_or_let_go!(
+        formals(alloc, pieces, depth),
+        mods,
+        params,
+        kind,
+        name
+    );
+    let (faults, rest) = found_or_let_go!(
+        throws(alloc, rest, depth),
+        mods,
+        params,
+        kind,
+        name,
+        parameters
+    );
     let JParam { name, at } = name;
     let head = JMemberHead::Method(mods, params, kind, name, at, parameters, faults);
     Ok(Some((head, rest)))
@@ -79,9 +82,7 @@ fn called_method<'a>(
 ) -> Result<Option<(JMemberHead, Pieces<'a>)>, NoMemory>
     ensures { Gives found Always (called_method depth mods params kind (shown pieces.now)) result }
 {
-    let Some((name, rest)) = ident(alloc, pieces)? else {
-        return Ok(None);
-    };
+    let (name, rest) = found_or_let_go!(ident(alloc, pieces), mods, params, kind);
     method(alloc, mods, params, JResult::Type(kind), name, rest, depth)
 }
 
@@ -96,9 +97,7 @@ fn void_method<'a>(
 ) -> Result<Option<(JMemberHead, Pieces<'a>)>, NoMemory>
     ensures { Gives found Always (void_method depth mods params at (shown pieces.now)) result }
 {
-    let Some((name, rest)) = ident(alloc, pieces)? else {
-        return Ok(None);
-    };
+    let (name, rest) = found_or_let_go!(ident(alloc, pieces), mods, params);
     method(alloc, mods, params, JResult::Void(at), name, rest, depth)
 }
 
@@ -113,9 +112,10 @@ fn field<'a>(
 ) -> Result<Option<(JMemberHead, Pieces<'a>)>, NoMemory>
     ensures { Gives found Always (m.field value_depth mods kind (shown pieces.now)) result }
 {
-    let Some((names, rest)) = declaration_of(alloc, value_depth, None, kind, pieces)? else {
-        return Ok(None);
-    };
+    let (names, rest) = found_or_let_go!(
+        declaration_of(alloc, value_depth, None, kind, pieces),
+        mods
+    );
     Ok(Some((JMemberHead::Field(mods, names), rest)))
 }
 
@@ -136,7 +136,12 @@ fn typed_member<'a>(
         return called_method(alloc, mods, params, kind, pieces, depth);
     }
     match params {
-        Some(_) => Ok(None),
+        Some(params) => {
+            let_go(mods);
+            let_go(params);
+            let_go(kind);
+            Ok(None)
+        }
         None => field(alloc, mods, kind, pieces, value_depth),
     }
 }
@@ -152,9 +157,7 @@ fn type_member<'a>(
 ) -> Result<Option<(JMemberHead, Pieces<'a>)>, NoMemory>
     ensures { Gives found Always (type_member depth value_depth mods params (shown pieces.now)) result }
 {
-    let Some((kind, rest)) = read_type(alloc, pieces, depth)? else {
-        return Ok(None);
-    };
+    let (kind, rest) = found_or_let_go!(read_type(alloc, pieces, depth), mods, params);
     typed_member(alloc, mods, params, kind.tree, rest, depth, value_depth)
 }
 
@@ -186,9 +189,7 @@ fn declared_member<'a>(
 ) -> Result<Option<(JMemberHead, Pieces<'a>)>, NoMemory>
     ensures { Gives found Always (m.declared_member depth value_depth mods (shown pieces.now)) result }
 {
-    let Some((params, rest)) = type_params(alloc, pieces, depth)? else {
-        return Ok(None);
-    };
+    let (params, rest) = found_or_let_go!(type_params(alloc, pieces, depth), mods);
     result_member(alloc, mods, params, rest, depth, value_depth)
 }
 
@@ -224,10 +225,10 @@ fn whole_member<'a>(
     let Some((head, rest)) = member_of(alloc, mods, rest, depth, value_depth)? else {
         return Ok(None);
     };
-    let head = Boxed::new(alloc, head)?;
     if at_end(rest) {
-        Ok(Some(head.into_inner()))
+        Ok(Some(head))
     } else {
+        let_go(head);
         Ok(None)
     }
 }

@@ -5,17 +5,15 @@ ghost use Rattle.java_token_cursor.specs.Shown.{shown};
 ghost use Rattle.java_type_parser.specs.Gives.{Gives, Always};
 ghost use Rattle.java_expr_grammar.specs.Reading as r;
 ghost use Rattle.java_member_grammar.specs.Reading as m;
-ghost use Rattle.java_statement_parser.specs.Found.{found};
-ghost use Rattle.java_member_parser.specs.Found.{type_params_found};
+ghost use Rattle.java_statement_parser.specs.Found.{found, listed_found};
 
 use crate::begins::closes;
-use crate::found::TypeParamsFound;
 use j2k_base::NoMemory;
 use java_member_grammar::{JBound, JTypeParam, JTypeParams};
+use java_statement_parser::ListFound;
 use java_token_cursor::{Head, Pieces, comma, first};
 use java_tree::{JParam, Keyword, Mark, Position};
-use java_type_parser::{ident, onward, read_type};
-use sqlite_items::Items;
+use java_type_parser::{found_or_let_go, ident, let_go, onward, read_type};
 use std::alloc::Global;
 
 /// `extends` and a type, where they come first.
@@ -53,9 +51,7 @@ fn type_param<'a>(
     let Some((name, rest)) = ident(alloc, pieces)? else {
         return Ok(None);
     };
-    let Some((bound, rest)) = bound(alloc, rest, depth - 1)? else {
-        return Ok(None);
-    };
+    let (bound, rest) = found_or_let_go!(bound(alloc, rest, depth - 1), name);
     let JParam { name, at } = name;
     Ok(Some((JTypeParam { name, at, bound }, rest)))
 }
@@ -66,36 +62,31 @@ fn some_type_params<'a>(
     alloc: Global,
     pieces: Pieces<'a>,
     depth: usize,
-) -> Result<Option<(TypeParamsFound, Pieces<'a>)>, NoMemory>
-    ensures { Gives type_params_found Always (r.some_by r.comma (m.type_param depth) (shown pieces.now)) result }
+) -> Result<Option<(ListFound<JTypeParam>, Pieces<'a>)>, NoMemory>
+    ensures { Gives listed_found Always (r.some_by r.comma (m.type_param depth) (shown pieces.now)) result }
 {
     let Some((param, rest)) = type_param(alloc, pieces, depth)? else {
         return Ok(None);
     };
-    let mut items = Items::new(alloc);
-    items.push(param)?;
-    let commas = Items::new(alloc);
-    more_type_params(alloc, TypeParamsFound { items, commas }, rest, depth)
+    let found = ListFound::one(alloc, param)?;
+    more_type_params(alloc, found, rest, depth)
 }
 
 #[tactic(auto, using(java_statement_parser::proofs::LawsToCite::lists), unfolding(java_expr_grammar::specs::Reading::more_by))]
 fn more_type_params<'a>(
     alloc: Global,
-    mut found: TypeParamsFound,
+    mut found: ListFound<JTypeParam>,
     mut pieces: Pieces<'a>,
     depth: usize,
-) -> Result<Option<(TypeParamsFound, Pieces<'a>)>, NoMemory>
-    ensures { Gives type_params_found Always (r.more_by r.comma (m.type_param depth) (length pieces.entry.now) found.items found.commas (shown pieces.entry.now)) result }
+) -> Result<Option<(ListFound<JTypeParam>, Pieces<'a>)>, NoMemory>
+    ensures { Gives listed_found Always (r.more_by r.comma (m.type_param depth) (length pieces.entry.now) found.items found.commas (shown pieces.entry.now)) result }
 {
     for _turn in 0..pieces.len() {
         let Some((at, rest)) = comma(pieces) else {
             return Ok(Some((found, pieces)));
         };
-        let Some((next, rest)) = type_param(alloc, rest, depth)? else {
-            return Ok(None);
-        };
-        found.items.push(next)?;
-        found.commas.push(at)?;
+        let (next, rest) = found_or_let_go!(type_param(alloc, rest, depth), found);
+        found = found.with(at, next)?;
         pieces = onward(rest);
     }
     Ok(Some((found, pieces)))
@@ -115,9 +106,10 @@ fn type_params_of<'a>(
         return Ok(None);
     };
     let Some(((is_joined, close), rest)) = closes(rest) else {
+        let_go(params);
         return Ok(None);
     };
-    let TypeParamsFound { items, commas } = params;
+    let ListFound { items, commas } = params;
     let params = JTypeParams {
         opens,
         items,

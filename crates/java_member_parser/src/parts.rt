@@ -5,16 +5,15 @@ ghost use Rattle.java_token_cursor.specs.Shown.{shown};
 ghost use Rattle.java_type_parser.specs.Gives.{Gives, Always};
 ghost use Rattle.java_expr_grammar.specs.Reading as r;
 ghost use Rattle.java_member_grammar.specs.Reading as m;
-ghost use Rattle.java_statement_parser.specs.Found.{found};
-ghost use Rattle.java_member_parser.specs.Found.{list_found, types_found};
+ghost use Rattle.java_statement_parser.specs.Found.{found, listed_found};
+ghost use Rattle.java_member_parser.specs.Found.{list_found};
 
-use crate::found::TypesFound;
 use j2k_base::NoMemory;
 use java_member_grammar::{JFormals, JTypeList};
+use java_statement_parser::ListFound;
 use java_token_cursor::{Head, Pieces, close, comma, first, open_round};
-use java_tree::{Keyword, Position};
-use java_type_parser::{TypedsFound, onward, read_type, typed_from};
-use sqlite_items::Items;
+use java_tree::{JType, Keyword, Position};
+use java_type_parser::{TypedsFound, found_or_let_go, let_go, onward, read_type, typed_from};
 use std::alloc::Global;
 
 /// Formal parameters.
@@ -33,6 +32,7 @@ pub fn formals<'a>(
         return Ok(None);
     };
     let Some((closes, rest)) = close(rest) else {
+        let_go(params);
         return Ok(None);
     };
     let TypedsFound {
@@ -55,36 +55,31 @@ fn some_types<'a>(
     alloc: Global,
     pieces: Pieces<'a>,
     depth: usize,
-) -> Result<Option<(TypesFound, Pieces<'a>)>, NoMemory>
-    ensures { Gives types_found Always (r.some_by r.comma (r.type_read depth) (shown pieces.now)) result }
+) -> Result<Option<(ListFound<JType>, Pieces<'a>)>, NoMemory>
+    ensures { Gives listed_found Always (r.some_by r.comma (r.type_read depth) (shown pieces.now)) result }
 {
     let Some((kind, rest)) = read_type(alloc, pieces, depth)? else {
         return Ok(None);
     };
-    let mut items = Items::new(alloc);
-    items.push(kind.tree)?;
-    let commas = Items::new(alloc);
-    more_types(alloc, TypesFound { items, commas }, rest, depth)
+    let found = ListFound::one(alloc, kind.tree)?;
+    more_types(alloc, found, rest, depth)
 }
 
 #[tactic(auto, using(java_statement_parser::proofs::LawsToCite::lists), unfolding(java_expr_grammar::specs::Reading::more_by))]
 fn more_types<'a>(
     alloc: Global,
-    mut found: TypesFound,
+    mut found: ListFound<JType>,
     mut pieces: Pieces<'a>,
     depth: usize,
-) -> Result<Option<(TypesFound, Pieces<'a>)>, NoMemory>
-    ensures { Gives types_found Always (r.more_by r.comma (r.type_read depth) (length pieces.entry.now) found.items found.commas (shown pieces.entry.now)) result }
+) -> Result<Option<(ListFound<JType>, Pieces<'a>)>, NoMemory>
+    ensures { Gives listed_found Always (r.more_by r.comma (r.type_read depth) (length pieces.entry.now) found.items found.commas (shown pieces.entry.now)) result }
 {
     for _turn in 0..pieces.len() {
         let Some((at, rest)) = comma(pieces) else {
             return Ok(Some((found, pieces)));
         };
-        let Some((next, rest)) = read_type(alloc, rest, depth)? else {
-            return Ok(None);
-        };
-        found.items.push(next.tree)?;
-        found.commas.push(at)?;
+        let (next, rest) = found_or_let_go!(read_type(alloc, rest, depth), found);
+        found = found.with(at, next.tree)?;
         pieces = onward(rest);
     }
     Ok(Some((found, pieces)))
@@ -103,7 +98,7 @@ fn types_behind<'a>(
     let Some((types, rest)) = some_types(alloc, pieces, depth)? else {
         return Ok(None);
     };
-    let TypesFound { items, commas } = types;
+    let ListFound { items, commas } = types;
     Ok(Some((Some(JTypeList { at, items, commas }), rest)))
 }
 

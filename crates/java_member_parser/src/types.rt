@@ -7,16 +7,16 @@ ghost use Rattle.java_member_grammar.specs.Reading as m;
 ghost use Rattle.java_statement_parser.specs.Found.{found, same};
 ghost use Rattle.java_member_parser.specs.Steps.{class_read, enum_read, interface_read};
 
-use crate::begins::at_end;
 use crate::modifiers::modifiers;
 use crate::params::{bound, type_params};
 use crate::parts::{extends_list, implements};
 use j2k_base::NoMemory;
 use java_member_grammar::{JModifier, JTypeHead};
+use java_statement_parser::at_end;
 use java_token_cursor::{Head, Pieces, first};
 use java_tree::{JParam, Keyword, Position};
-use java_type_parser::ident;
-use sqlite_items::{Boxed, Items};
+use java_type_parser::{found_or_let_go, ident, let_go};
+use sqlite_items::Items;
 use std::alloc::Global;
 
 /// A class behind its `class`.
@@ -30,18 +30,10 @@ fn class_read<'a>(
 ) -> Result<Option<(JTypeHead, Pieces<'a>)>, NoMemory>
     ensures { Gives found Always (class_read depth mods word (shown pieces.now)) result }
 {
-    let Some((name, rest)) = ident(alloc, pieces)? else {
-        return Ok(None);
-    };
-    let Some((params, rest)) = type_params(alloc, rest, depth)? else {
-        return Ok(None);
-    };
-    let Some((above, rest)) = bound(alloc, rest, depth)? else {
-        return Ok(None);
-    };
-    let Some((faces, rest)) = implements(alloc, rest, depth)? else {
-        return Ok(None);
-    };
+    let (name, rest) = found_or_let_go!(ident(alloc, pieces), mods);
+    let (params, rest) = found_or_let_go!(type_params(alloc, rest, depth), mods, name);
+    let (above, rest) = found_or_let_go!(bound(alloc, rest, depth), mods, name, params);
+    let (faces, rest) = found_or_let_go!(implements(alloc, rest, depth), mods, name, params, above);
     let JParam { name, at } = name;
     let head = JTypeHead::Class(mods, word, name, at, params, above, faces);
     Ok(Some((head, rest)))
@@ -58,15 +50,9 @@ fn interface_read<'a>(
 ) -> Result<Option<(JTypeHead, Pieces<'a>)>, NoMemory>
     ensures { Gives found Always (interface_read depth mods word (shown pieces.now)) result }
 {
-    let Some((name, rest)) = ident(alloc, pieces)? else {
-        return Ok(None);
-    };
-    let Some((params, rest)) = type_params(alloc, rest, depth)? else {
-        return Ok(None);
-    };
-    let Some((above, rest)) = extends_list(alloc, rest, depth)? else {
-        return Ok(None);
-    };
+    let (name, rest) = found_or_let_go!(ident(alloc, pieces), mods);
+    let (params, rest) = found_or_let_go!(type_params(alloc, rest, depth), mods, name);
+    let (above, rest) = found_or_let_go!(extends_list(alloc, rest, depth), mods, name, params);
     let JParam { name, at } = name;
     let head = JTypeHead::Interface(mods, word, name, at, params, above);
     Ok(Some((head, rest)))
@@ -83,12 +69,8 @@ fn enum_read<'a>(
 ) -> Result<Option<(JTypeHead, Pieces<'a>)>, NoMemory>
     ensures { Gives found Always (enum_read depth mods word (shown pieces.now)) result }
 {
-    let Some((name, rest)) = ident(alloc, pieces)? else {
-        return Ok(None);
-    };
-    let Some((faces, rest)) = implements(alloc, rest, depth)? else {
-        return Ok(None);
-    };
+    let (name, rest) = found_or_let_go!(ident(alloc, pieces), mods);
+    let (faces, rest) = found_or_let_go!(implements(alloc, rest, depth), mods, name);
     let JParam { name, at } = name;
     let head = JTypeHead::Enum(mods, word, name, at, faces);
     Ok(Some((head, rest)))
@@ -107,7 +89,10 @@ fn type_of<'a>(
         Head::Word(Keyword::Class, at, rest) => class_read(alloc, mods, at, rest, depth),
         Head::Word(Keyword::Interface, at, rest) => interface_read(alloc, mods, at, rest, depth),
         Head::Word(Keyword::Enum, at, rest) => enum_read(alloc, mods, at, rest, depth),
-        _ => Ok(None),
+        _ => {
+            let_go(mods);
+            Ok(None)
+        }
     }
 }
 
@@ -124,10 +109,10 @@ pub fn type_head_read<'a>(
     let Some((head, rest)) = type_of(alloc, mods, rest, depth)? else {
         return Ok(None);
     };
-    let head = Boxed::new(alloc, head)?;
     if at_end(rest) {
-        Ok(Some(head.into_inner()))
+        Ok(Some(head))
     } else {
+        let_go(head);
         Ok(None)
     }
 }

@@ -7,6 +7,3 @@ mod modifiers;
 
 pub use fits::{Owner, Role, home_of, may_stand, member_fits, owner_of};
 pub use members::type_fits;
-
-#[cfg(test)]
-mod tests;

@@ -6,6 +6,3 @@ mod parsing;
 
 pub use faults::SyntaxFault;
 pub use parsing::parse;
-
-#[cfg(test)]
-mod tests;

@@ -1,5 +1,5 @@
 -- What stands before the `;` of a statement: what is read is spelled so, and what is spelled so is read.
-use Rattle.std.proofs.Common.{◌≡◌, ◌<◌, ℕ, true, false, ◌++◌, List, [], ◌∷◌, map, Option, Some, None, inl, inr, refl, ap, sym, ◌∙◌, subst, arith}
+use Rattle.std.proofs.Common.{suc, ◌≡◌, ◌<◌, ℕ, true, false, ◌++◌, List, [], ◌∷◌, map, Option, Some, None, inl, inr, refl, ap, sym, ◌∙◌, subst, arith}
 use Rattle.std.specs.List.{AllByRecursion}
 use Rattle.std.proofs.lemmas.List.{append-nil}
 use Rattle.java_tree.specs.declared.tokens.Position.{Position}
@@ -76,7 +76,7 @@ args_read_sound : (d : ℕ) (ts : Tokens) (x : (Listed JExpr × Position) × Tok
     → (ts ≡ listed x.0.0.1 (map tokens x.0.0.0) ++ Token.Sign m.CloseRound x.0.1 ∷ x.1) × AreBetween x.0.0.1 x.0.0.0 × AllByRecursion (Stands d any_level) x.0.0.0
 unfolding args_read
 args_read_sound d ts x e =
-    let a = bind_some (r.args_from (r.type_read d) (r.base_read d) (r.typed_read d) (r.read d) ts) _ _ e in
+    let a = bind_some (r.args_from (r.type_read d) (r.base_read (suc d)) (r.typed_read d) (r.read d) ts) _ _ e in
     let c = bind_some (r.close a.0.1) _ _ a.2 in
     let i = args_sound d (sound d) ts a.0 a.1 in
     let P : (Listed JExpr × Position) × Tokens → Type 0 =

@@ -101,7 +101,7 @@ value_of d ts = whole (read d any_level ts) >>= λ x. Some (Some x)
 -- the arguments and the `)` behind them
 unfoldable pub args_read : ℕ → Reader (Listed JExpr × Position)
 args_read d ts = do
-  args ← args_from (type_read d) (base_read d) (typed_read d) (read d) ts
+  args ← args_from (type_read d) (base_read (suc d)) (typed_read d) (read d) ts
   rp ← close args.1
   Some ((args.0, rp.0), rp.1)
 

@@ -11,9 +11,7 @@ use Rattle.java_token_cursor.specs.declared.piece.Piece.{Piece}
 use Rattle.java_token_cursor.specs.Shown.{shown}
 use Rattle.java_exprs.specs.declared.found.ExprFound.{ExprFound}
 use Rattle.java_statement_grammar.specs.declared.declarations.JValue.{JValue}
-use Rattle.java_statement_grammar.specs.declared.declarations.JDeclarator.{JDeclarator}
-use Rattle.java_statement_parser.specs.declared.found.NamesFound.{NamesFound}
-use Rattle.java_statement_parser.specs.declared.found.StepsFound.{StepsFound}
+use Rattle.java_statement_parser.specs.declared.found.ListFound.{ListFound}
 use Rattle.java_statement_parser.specs.declared.found.ArgsFound.{ArgsFound}
 
 -- the one that has the property, or None where none has it
@@ -30,11 +28,8 @@ found x = (x.0, shown x.1.now)
 abbrev pub tree_found : ExprFound → JExpr
 tree_found x = x.tree
 
-abbrev pub names_found : NamesFound × Bor (List Piece) → Listed JDeclarator × Tokens
-names_found x = ((x.0.items, x.0.commas), shown x.1.now)
-
-abbrev pub steps_found : StepsFound × Bor (List Piece) → Listed JExpr × Tokens
-steps_found x = ((x.0.items, x.0.commas), shown x.1.now)
+abbrev pub listed_found : {A : Type 0} → ListFound A × Bor (List Piece) → Listed A × Tokens
+listed_found x = ((x.0.items, x.0.commas), shown x.1.now)
 
 abbrev pub args_found : ArgsFound × Bor (List Piece) → (Listed JExpr × Position) × Tokens
 args_found x = (((x.0.items, x.0.commas), x.0.close), shown x.1.now)

@@ -5,17 +5,16 @@ ghost use Rattle.java_token_cursor.specs.Shown.{shown};
 ghost use Rattle.java_type_parser.specs.Gives.{Gives, Always};
 ghost use Rattle.java_expr_grammar.specs.Reading as r;
 ghost use Rattle.java_statement_grammar.specs.Reading as h;
-ghost use Rattle.java_statement_parser.specs.Found.{found, names_found, value_at};
+ghost use Rattle.java_statement_parser.specs.Found.{found, listed_found, value_at};
 
 use crate::begins::final_first;
-use crate::found::NamesFound;
+use crate::found::ListFound;
 use j2k_base::NoMemory;
 use java_exprs::read;
 use java_statement_grammar::{JDeclaration, JDeclarator, JValue};
 use java_token_cursor::{Head, Pieces, comma, first};
 use java_tree::{JParam, JType, Mark, Position};
-use java_type_parser::{ident, onward, read_type};
-use sqlite_items::Items;
+use java_type_parser::{found_or_let_go, ident, onward, read_type};
 use std::alloc::Global;
 
 /// The value behind a `=`.
@@ -63,9 +62,7 @@ fn declarator<'a>(
     let Some((name, rest)) = ident(alloc, pieces)? else {
         return Ok(None);
     };
-    let Some((value, rest)) = value_by(alloc, rest, depth - 1)? else {
-        return Ok(None);
-    };
+    let (value, rest) = found_or_let_go!(value_by(alloc, rest, depth - 1), name);
     let JParam { name, at } = name;
     Ok(Some((JDeclarator { name, at, value }, rest)))
 }
@@ -76,36 +73,31 @@ fn declarators<'a>(
     alloc: Global,
     pieces: Pieces<'a>,
     depth: usize,
-) -> Result<Option<(NamesFound, Pieces<'a>)>, NoMemory>
-    ensures { Gives names_found Always (r.some_by r.comma (h.declarator_read depth) (shown pieces.now)) result }
+) -> Result<Option<(ListFound<JDeclarator>, Pieces<'a>)>, NoMemory>
+    ensures { Gives listed_found Always (r.some_by r.comma (h.declarator_read depth) (shown pieces.now)) result }
 {
     let Some((name, rest)) = declarator(alloc, pieces, depth)? else {
         return Ok(None);
     };
-    let mut items = Items::new(alloc);
-    items.push(name)?;
-    let commas = Items::new(alloc);
-    more_declarators(alloc, NamesFound { items, commas }, rest, depth)
+    let found = ListFound::one(alloc, name)?;
+    more_declarators(alloc, found, rest, depth)
 }
 
 #[tactic(auto, using(crate::proofs::Rules::lists), unfolding(java_expr_grammar::specs::Reading::more_by))]
 fn more_declarators<'a>(
     alloc: Global,
-    mut found: NamesFound,
+    mut found: ListFound<JDeclarator>,
     mut pieces: Pieces<'a>,
     depth: usize,
-) -> Result<Option<(NamesFound, Pieces<'a>)>, NoMemory>
-    ensures { Gives names_found Always (r.more_by r.comma (h.declarator_read depth) (length pieces.entry.now) found.items found.commas (shown pieces.entry.now)) result }
+) -> Result<Option<(ListFound<JDeclarator>, Pieces<'a>)>, NoMemory>
+    ensures { Gives listed_found Always (r.more_by r.comma (h.declarator_read depth) (length pieces.entry.now) found.items found.commas (shown pieces.entry.now)) result }
 {
     for _turn in 0..pieces.len() {
         let Some((at, rest)) = comma(pieces) else {
             return Ok(Some((found, pieces)));
         };
-        let Some((next, rest)) = declarator(alloc, rest, depth)? else {
-            return Ok(None);
-        };
-        found.items.push(next)?;
-        found.commas.push(at)?;
+        let (next, rest) = found_or_let_go!(declarator(alloc, rest, depth), found);
+        found = found.with(at, next)?;
         pieces = onward(rest);
     }
     Ok(Some((found, pieces)))
@@ -122,10 +114,8 @@ pub fn declaration_of<'a>(
 ) -> Result<Option<(JDeclaration, Pieces<'a>)>, NoMemory>
     ensures { Gives found Always (h.declaration_of depth is_final kind (shown pieces.now)) result }
 {
-    let Some((names, rest)) = declarators(alloc, pieces, depth)? else {
-        return Ok(None);
-    };
-    let NamesFound {
+    let (names, rest) = found_or_let_go!(declarators(alloc, pieces, depth), kind);
+    let ListFound {
         items: names,
         commas,
     } = names;

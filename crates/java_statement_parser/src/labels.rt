@@ -14,7 +14,7 @@ use java_exprs::read;
 use java_statement_grammar::{JLock, JSwitchLabel};
 use java_token_cursor::{Head, Pieces, colon, dot, first};
 use java_tree::{JQualified, Keyword, Position};
-use java_type_parser::qualified;
+use java_type_parser::{let_go, qualified};
 use std::alloc::Global;
 
 fn class_word<'a>(pieces: Pieces<'a>) -> Option<(Position, Pieces<'a>)>
@@ -31,11 +31,18 @@ fn class_word<'a>(pieces: Pieces<'a>) -> Option<(Position, Pieces<'a>)>
 fn class_of<'a>(name: JQualified, pieces: Pieces<'a>) -> Option<JLock>
     ensures { result ≡ h.class_of name (shown pieces.now) }
 {
-    let (dot, rest) = dot(pieces)?;
-    let (at, rest) = class_word(rest)?;
+    let Some((dot, rest)) = dot(pieces) else {
+        let_go(name);
+        return None;
+    };
+    let Some((at, rest)) = class_word(rest) else {
+        let_go(name);
+        return None;
+    };
     if at_end(rest) {
         Some(JLock::Class(name, dot, at))
     } else {
+        let_go(name);
         None
     }
 }
@@ -84,6 +91,7 @@ fn case_of<'a>(
         return Ok(None);
     };
     let Some((end, rest)) = colon(rest) else {
+        let_go(value);
         return Ok(None);
     };
     let value = value.tree.into_inner();
@@ -127,6 +135,7 @@ pub fn switch_read<'a>(
     if at_end(rest) {
         Ok(Some(label))
     } else {
+        let_go(label);
         Ok(None)
     }
 }

@@ -10,14 +10,14 @@ ghost use Rattle.java_statement_parser.specs.Basic.{for_first, tests_found, test
 
 use crate::begins::{at_end, begins_declaration, final_first, semicolon, walks};
 use crate::declarations::declaration_of;
-use crate::found::{StepsFound, TestsFound};
+use crate::found::{ListFound, TestsFound};
 use crate::parts::{expressions, unboxed};
 use j2k_base::NoMemory;
 use java_exprs::read;
 use java_statement_grammar::{JForHead, JForStart};
 use java_token_cursor::{Pieces, colon};
 use java_tree::{JExpr, JParam, JType, Position};
-use java_type_parser::{ident, read_type};
+use java_type_parser::{found_or_let_go, ident, let_go, read_type};
 use sqlite_items::Boxed;
 use std::alloc::Global;
 
@@ -53,6 +53,7 @@ fn tests<'a>(
         return Ok(None);
     };
     let Some((second, rest)) = semicolon(rest) else {
+        let_go(test);
         return Ok(None);
     };
     let found = TestsFound {
@@ -63,7 +64,7 @@ fn tests<'a>(
     Ok(Some((found, rest)))
 }
 
-fn basic_head(start: JForStart, tests: TestsFound, updates: StepsFound) -> JForHead
+fn basic_head(start: JForStart, tests: TestsFound, updates: ListFound<JExpr>) -> JForHead
     ensures { result ≡ v.Basic start tests.first tests.test tests.second updates.items updates.commas }
 {
     let TestsFound {
@@ -71,7 +72,7 @@ fn basic_head(start: JForStart, tests: TestsFound, updates: StepsFound) -> JForH
         test,
         second,
     } = tests;
-    let StepsFound { items, commas } = updates;
+    let ListFound { items, commas } = updates;
     JForHead::Basic(start, first, unboxed(test), second, items, commas)
 }
 
@@ -85,9 +86,7 @@ fn updates<'a>(
 ) -> Result<Option<(JForHead, Pieces<'a>)>, NoMemory>
     ensures { Gives found Always (updates_read depth start ((tests.first, tests.test), tests.second) (shown pieces.now)) result }
 {
-    let Some((updates, rest)) = expressions(alloc, pieces, depth)? else {
-        return Ok(None);
-    };
+    let (updates, rest) = found_or_let_go!(expressions(alloc, pieces, depth), start, tests);
     let head = basic_head(start, tests, updates);
     Ok(Some((head, rest)))
 }
@@ -102,9 +101,7 @@ fn basic<'a>(
 ) -> Result<Option<(JForHead, Pieces<'a>)>, NoMemory>
     ensures { Gives found Always (h.basic depth start (shown pieces.now)) result }
 {
-    let Some((found, rest)) = tests(alloc, pieces, depth)? else {
-        return Ok(None);
-    };
+    let (found, rest) = found_or_let_go!(tests(alloc, pieces, depth), start);
     updates(alloc, start, found, rest, depth)
 }
 
@@ -119,15 +116,13 @@ fn each<'a>(
 ) -> Result<Option<(JForHead, Pieces<'a>)>, NoMemory>
     ensures { Gives found Always (h.each depth is_final kind (shown pieces.now)) result }
 {
-    let Some((name, rest)) = ident(alloc, pieces)? else {
-        return Ok(None);
-    };
+    let (name, rest) = found_or_let_go!(ident(alloc, pieces), kind);
     let Some((between, rest)) = colon(rest) else {
+        let_go(kind);
+        let_go(name);
         return Ok(None);
     };
-    let Some((walked, rest)) = read(alloc, rest, depth, 1)? else {
-        return Ok(None);
-    };
+    let (walked, rest) = found_or_let_go!(read(alloc, rest, depth, 1), kind, name);
     let JParam { name, at } = name;
     let walked = walked.tree.into_inner();
     Ok(Some((
@@ -182,7 +177,7 @@ fn for_plain<'a>(
     let Some((steps, rest)) = expressions(alloc, pieces, depth)? else {
         return Ok(None);
     };
-    let StepsFound { items, commas } = steps;
+    let ListFound { items, commas } = steps;
     basic(alloc, JForStart::Expressions(items, commas), rest, depth)
 }
 
@@ -213,10 +208,10 @@ pub fn for_read<'a>(
     let Some((head, rest)) = for_first(alloc, pieces, depth)? else {
         return Ok(None);
     };
-    let head = Boxed::new(alloc, head)?;
     if at_end(rest) {
-        Ok(Some(head.into_inner()))
+        Ok(Some(head))
     } else {
+        let_go(head);
         Ok(None)
     }
 }

@@ -8,16 +8,16 @@ ghost use Rattle.java_expr_grammar.specs.Reading as r;
 ghost use Rattle.java_exprs.specs.Exprs.{expr_found};
 ghost use Rattle.java_statement_grammar.specs.Heads as d;
 ghost use Rattle.java_statement_grammar.specs.Reading as h;
-ghost use Rattle.java_statement_parser.specs.Found.{args_found, same, steps_found, tree_found};
+ghost use Rattle.java_statement_parser.specs.Found.{args_found, same, listed_found, tree_found};
 
 use crate::begins::{at_end, ends_expressions};
-use crate::found::{ArgsFound, StepsFound};
+use crate::found::{ArgsFound, ListFound};
 use j2k_base::NoMemory;
 use java_exprs::{ExprFound, ExprsFound, arguments, read};
 use java_token_cursor::{Pieces, close, comma};
 use java_tree::{JExpr, PrefixOp};
-use java_type_parser::onward;
-use sqlite_items::{Boxed, Items};
+use java_type_parser::{found_or_let_go, let_go, onward};
+use sqlite_items::Boxed;
 use std::alloc::Global;
 
 /// The tree, where there is one.
@@ -45,6 +45,7 @@ pub fn whole<'a>(
     if at_end(rest) {
         Ok(Some(found))
     } else {
+        let_go(found);
         Ok(None)
     }
 }
@@ -108,6 +109,7 @@ pub fn statement_read<'a>(
     if is_statement(found.tree.get()) {
         Ok(Some((found, rest)))
     } else {
+        let_go(found);
         Ok(None)
     }
 }
@@ -118,36 +120,31 @@ fn some_steps<'a>(
     alloc: Global,
     pieces: Pieces<'a>,
     depth: usize,
-) -> Result<Option<(StepsFound, Pieces<'a>)>, NoMemory>
-    ensures { Gives steps_found Always (r.some_by r.comma (h.statement_read depth) (shown pieces.now)) result }
+) -> Result<Option<(ListFound<JExpr>, Pieces<'a>)>, NoMemory>
+    ensures { Gives listed_found Always (r.some_by r.comma (h.statement_read depth) (shown pieces.now)) result }
 {
     let Some((step, rest)) = statement_read(alloc, pieces, depth)? else {
         return Ok(None);
     };
-    let mut items = Items::new(alloc);
-    items.push(step.tree.into_inner())?;
-    let commas = Items::new(alloc);
-    more_steps(alloc, StepsFound { items, commas }, rest, depth)
+    let found = ListFound::one(alloc, step.tree.into_inner())?;
+    more_steps(alloc, found, rest, depth)
 }
 
 #[tactic(auto, using(crate::proofs::Rules::lists), unfolding(java_expr_grammar::specs::Reading::more_by))]
 fn more_steps<'a>(
     alloc: Global,
-    mut found: StepsFound,
+    mut found: ListFound<JExpr>,
     mut pieces: Pieces<'a>,
     depth: usize,
-) -> Result<Option<(StepsFound, Pieces<'a>)>, NoMemory>
-    ensures { Gives steps_found Always (r.more_by r.comma (h.statement_read depth) (length pieces.entry.now) found.items found.commas (shown pieces.entry.now)) result }
+) -> Result<Option<(ListFound<JExpr>, Pieces<'a>)>, NoMemory>
+    ensures { Gives listed_found Always (r.more_by r.comma (h.statement_read depth) (length pieces.entry.now) found.items found.commas (shown pieces.entry.now)) result }
 {
     for _turn in 0..pieces.len() {
         let Some((at, rest)) = comma(pieces) else {
             return Ok(Some((found, pieces)));
         };
-        let Some((next, rest)) = statement_read(alloc, rest, depth)? else {
-            return Ok(None);
-        };
-        found.items.push(next.tree.into_inner())?;
-        found.commas.push(at)?;
+        let (next, rest) = found_or_let_go!(statement_read(alloc, rest, depth), found);
+        found = found.with(at, next.tree.into_inner())?;
         pieces = onward(rest);
     }
     Ok(Some((found, pieces)))
@@ -159,15 +156,11 @@ pub fn expressions<'a>(
     alloc: Global,
     pieces: Pieces<'a>,
     depth: usize,
-) -> Result<Option<(StepsFound, Pieces<'a>)>, NoMemory>
-    ensures { Gives steps_found Always (h.expressions depth (shown pieces.now)) result }
+) -> Result<Option<(ListFound<JExpr>, Pieces<'a>)>, NoMemory>
+    ensures { Gives listed_found Always (h.expressions depth (shown pieces.now)) result }
 {
     if ends_expressions(pieces) {
-        let none = StepsFound {
-            items: Items::new(alloc),
-            commas: Items::new(alloc),
-        };
-        return Ok(Some((none, pieces)));
+        return Ok(Some((ListFound::none(alloc), pieces)));
     }
     some_steps(alloc, pieces, depth)
 }
@@ -185,6 +178,7 @@ pub fn args_read<'a>(
         return Ok(None);
     };
     let Some((close, rest)) = close(rest) else {
+        let_go(args);
         return Ok(None);
     };
     let ExprsFound {

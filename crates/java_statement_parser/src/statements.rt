@@ -17,6 +17,7 @@ use j2k_base::{Name, NoMemory};
 use java_statement_grammar::{JLabelName, JSimple};
 use java_token_cursor::{Head, Pieces, copied, first};
 use java_tree::{Keyword, Mark, Position};
+use java_type_parser::let_go;
 use std::alloc::Global;
 
 #[tactic(auto, using(crate::proofs::Rules::ends), unfolding(java_statement_grammar::specs::Reading::expression))]
@@ -33,6 +34,7 @@ fn expression<'a>(
     if at_end(rest) {
         Ok(Some(JSimple::Expression(found.tree.into_inner())))
     } else {
+        let_go(found);
         Ok(None)
     }
 }
@@ -51,6 +53,7 @@ fn declaration<'a>(
     if at_end(rest) {
         Ok(Some(JSimple::Declaration(declared)))
     } else {
+        let_go(declared);
         Ok(None)
     }
 }
@@ -163,6 +166,7 @@ fn this_call<'a>(
         return Ok(None);
     };
     if !at_end(rest) {
+        let_go(args);
         return Ok(None);
     }
     let ArgsFound {
@@ -187,6 +191,7 @@ fn super_call<'a>(
         return Ok(None);
     };
     if !at_end(rest) {
+        let_go(args);
         return Ok(None);
     }
     let ArgsFound {

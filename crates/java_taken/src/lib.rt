@@ -14,6 +14,3 @@ pub use judged::{Judged, TypedFile};
 pub use laws::{has_no_keyword, is_named, is_typed};
 pub use names::Names;
 pub use units::judge;
-
-#[cfg(test)]
-mod tests;

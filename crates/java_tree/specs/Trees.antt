@@ -1,5 +1,5 @@
 -- Which tokens a tree spells, and which trees stand: each operand at its level, at a depth.
-use Rattle.std.specs.Prelude.{◌≡◌, ℕ, zero, suc, ◌+◌, ◌≤◌, max, Bool, true, false, not, List, [], ◌∷◌, ◌++◌, length, map, Option, Some, None}
+use Rattle.std.specs.Prelude.{◌≡◌, ℕ, zero, suc, ◌+◌, ◌-◌, ◌≤◌, max, Bool, true, false, not, List, [], ◌∷◌, ◌++◌, length, map, Option, Some, None}
 use Rattle.std.specs.List.{AllByRecursion}
 use Rattle.java_tree.specs.declared.tokens.Position.{Position}
 use Rattle.java_tree.specs.declared.tokens.Mark.{Mark}
@@ -356,9 +356,13 @@ abbrev pub params_depth : JParams → ℕ
 params_depth (params.Typed lp ps commas rp) = deepest (map typed_depth ps)
 params_depth _ = 1
 
+-- The type behind `new` is no part that stands by itself: its arguments are parts of what is created.
+abbrev pub new_depth : JType → ℕ
+new_depth x = type_depth x - 1
+
 abbrev pub created_depth : JCreated → ℕ
-created_depth (created.Type x) = type_depth x
-created_depth (created.Inferred q lp is_joined close) = 1
+created_depth (created.Type x) = new_depth x
+created_depth (created.Inferred q lp is_joined close) = 0
 
 -- A body is 1 deep.
 abbrev pub depth_by : JExpr-F ℕ → ℕ
@@ -382,8 +386,8 @@ depth_by (JExpr-F.MinusLeast minus literal at) = 2
 depth_by (JExpr-F.Lambda params arrow body) = suc (max (params_depth params) body)
 depth_by (JExpr-F.LambdaBlock params arrow body) = suc (max (params_depth params) 1)
 depth_by (JExpr-F.New at made lp args commas rp body) = suc (max (created_depth made) (deepest args))
-depth_by (JExpr-F.NewArray at of lb size rb more) = suc (max (type_depth of) size)
-depth_by (JExpr-F.NewFilled at of brackets lc inits commas more rc) = suc (max (type_depth of) (deepest inits))
+depth_by (JExpr-F.NewArray at of lb size rb more) = suc (max (new_depth of) size)
+depth_by (JExpr-F.NewFilled at of brackets lc inits commas more rc) = suc (max (new_depth of) (deepest inits))
 depth_by (JExpr-F.Braces lc inits commas more rc) = suc (deepest inits)
 
 unfoldable pub depth : JExpr → ℕ
@@ -420,9 +424,10 @@ params_stand R (params.One p) = Unit {0}
 params_stand R (params.Several lp ps commas rp) = (1 ≤ length ps) × AreBetween commas ps
 params_stand R (params.Typed lp ps commas rp) = AreBetween commas ps × AllByRecursion R ps
 
-abbrev pub created_stands : ℕ → (JType → Type 0) → JCreated → Type 0
-created_stands d Q (created.Type x) = Q x × (is_class x ≡ true)
-created_stands d Q (created.Inferred q lp is_joined close) = 1 ≤ d
+-- The arguments of its type may be d deep.
+abbrev pub created_stands : ℕ → JCreated → Type 0
+created_stands d (created.Type x) = TypeStands (suc d) x × (is_class x ≡ true)
+created_stands d (created.Inferred q lp is_joined close) = Unit {0}
 
 -- Each operand stands at its level: `P l` says that of an operand at the level l, Q of a type, and R of a parameter with its type.
 -- The parts may be d deep.
@@ -446,10 +451,10 @@ stands_by d Q R P (JExpr-F.Assign left op at right) = P primary_level left × (i
 stands_by d Q R P (JExpr-F.MinusLeast minus literal at) = (is_least literal ≡ true) × (1 ≤ d)
 stands_by d Q R P (JExpr-F.Lambda params arrow body) = params_stand R params × P any_level body
 stands_by d Q R P (JExpr-F.LambdaBlock params arrow body) = params_stand R params × (1 ≤ d)
-stands_by d Q R P (JExpr-F.New at made lp args commas rp body) = created_stands d Q made × AreBetween commas args × AllByRecursion (P any_level) args
-stands_by d Q R P (JExpr-F.NewArray at of lb size rb more) = Q of × (is_array of ≡ false) × P any_level size
+stands_by d Q R P (JExpr-F.New at made lp args commas rp body) = created_stands d made × AreBetween commas args × AllByRecursion (P any_level) args
+stands_by d Q R P (JExpr-F.NewArray at of lb size rb more) = TypeStands (suc d) of × (is_array of ≡ false) × P any_level size
 stands_by d Q R P (JExpr-F.NewFilled at of brackets lc inits commas more rc) =
-    Q of × (is_array of ≡ false) × (1 ≤ length brackets) × AreBetween commas inits × AllByRecursion (P init_level) inits
+    TypeStands (suc d) of × (is_array of ≡ false) × (1 ≤ length brackets) × AreBetween commas inits × AllByRecursion (P init_level) inits
 stands_by d Q R P (JExpr-F.Braces lc inits commas more rc) = AreBetween commas inits × AllByRecursion (P init_level) inits
 
 -- It stands at the level, with a depth of at most the first number.

@@ -6,6 +6,7 @@ ghost use Rattle.java_token_cursor.specs.Heads.{Finds};
 ghost use Rattle.java_expr_grammar.specs.Reading as r;
 ghost use Rattle.java_type_parser.specs.Gives.{closed_pair, pair_at, named, dotted_at, HasDot, inferred_end, Gives, Always, param_found, created_found};
 
+use crate::exits::let_go;
 use crate::types::closes;
 use j2k_base::{Name, NoMemory};
 use java_token_cursor::{Head, Pieces, close_square, copied, dot, first};
@@ -80,7 +81,10 @@ pub fn brackets<'a>(
 {
     let mut pairs = Items::new(alloc);
     while let Some((next, rest)) = pair(pieces) {
-        pairs.push(next)?;
+        let Ok(()) = pairs.push(next) else {
+            let_go(pairs);
+            return Err(NoMemory);
+        };
         pieces = onward(rest);
     }
     Ok((pairs, pieces))
@@ -118,12 +122,19 @@ pub fn dotted<'a>(
 {
     let mut names = Items::new(alloc);
     while let Some(next) = dot_name(pieces) {
-        let name = copied(alloc, next.name)?;
-        names.push(JDotted {
+        let Ok(name) = copied(alloc, next.name) else {
+            let_go(names);
+            return Err(NoMemory);
+        };
+        let name = JDotted {
             dot: next.dot,
             name,
             at: next.at,
-        })?;
+        };
+        let Ok(()) = names.push(name) else {
+            let_go(names);
+            return Err(NoMemory);
+        };
         pieces = onward(next.rest);
     }
     Ok((names, pieces))
@@ -150,7 +161,10 @@ pub fn qualified<'a>(
     ensures { IfOk result (λ x. (x.0, shown x.1.now) ≡ r.qualified name.now at (shown pieces.now)) }
 {
     let name = copied(alloc, name)?;
-    let (rest, pieces) = dotted(alloc, pieces)?;
+    let Ok((rest, pieces)) = dotted(alloc, pieces) else {
+        let_go(name);
+        return Err(NoMemory);
+    };
     Ok((JQualified { name, at, rest }, pieces))
 }
 
@@ -161,7 +175,10 @@ fn inferred_end<'a>(
 ) -> Option<(JCreated, Pieces<'a>)>
     ensures { Finds (inferred_end name lp (shown pieces.now)) result }
 {
-    let ((is_joined, close), rest) = closes(pieces)?;
+    let Some(((is_joined, close), rest)) = closes(pieces) else {
+        let_go(name);
+        return None;
+    };
     Some((JCreated::Inferred(name, lp, is_joined, close), rest))
 }
 
@@ -170,7 +187,10 @@ fn inferred_by<'a>(name: JQualified, pieces: Pieces<'a>) -> Option<(JCreated, Pi
 {
     match first(pieces) {
         Head::Mark(Mark::Less, lp, rest) => inferred_end(name, lp, rest),
-        _ => None,
+        _ => {
+            let_go(name);
+            None
+        }
     }
 }
 

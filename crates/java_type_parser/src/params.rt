@@ -5,6 +5,8 @@ ghost use Rattle.java_token_cursor.specs.Shown.{shown};
 ghost use Rattle.java_expr_grammar.specs.Reading as r;
 ghost use Rattle.java_type_parser.specs.Gives.{Gives, Always, params_found, typed_found, typeds_found, TypedFits, TypedsFit, typed_list};
 
+use crate::exits::let_go;
+use crate::found_or_let_go;
 use crate::names::{ident, onward};
 use crate::types::{TypeFound, larger, read_type};
 use j2k_base::NoMemory;
@@ -47,7 +49,10 @@ pub fn some_params<'a>(
         return Ok(None);
     };
     let mut items = Items::new(alloc);
-    items.push(found)?;
+    let Ok(()) = items.push(found) else {
+        let_go(items);
+        return Err(NoMemory);
+    };
     let commas = Items::new(alloc);
     more_params(alloc, ParamsFound { items, commas }, rest)
 }
@@ -64,11 +69,15 @@ fn more_params<'a>(
         let Some((at, rest)) = comma(pieces) else {
             return Ok(Some((found, pieces)));
         };
-        let Some((next, rest)) = ident(alloc, rest)? else {
-            return Ok(None);
+        let (next, rest) = found_or_let_go!(ident(alloc, rest), found);
+        let Ok(()) = found.items.push(next) else {
+            let_go(found);
+            return Err(NoMemory);
         };
-        found.items.push(next)?;
-        found.commas.push(at)?;
+        let Ok(()) = found.commas.push(at) else {
+            let_go(found);
+            return Err(NoMemory);
+        };
         pieces = onward(rest);
     }
     Ok(Some((found, pieces)))
@@ -87,9 +96,7 @@ fn typed_by<'a>(
     let Some((found, rest)) = read_type(alloc, pieces, depth)? else {
         return Ok(None);
     };
-    let Some((name, rest)) = ident(alloc, rest)? else {
-        return Ok(None);
-    };
+    let (name, rest) = found_or_let_go!(ident(alloc, rest), found);
     let JParam { name, at } = name;
     let TypeFound { tree: kind, depth } = found;
     let tree = JTypedParam {
@@ -149,7 +156,10 @@ fn some_typed<'a>(
         return Ok(None);
     };
     let mut items = Items::new(alloc);
-    items.push(found.tree)?;
+    let Ok(()) = items.push(found.tree) else {
+        let_go(items);
+        return Err(NoMemory);
+    };
     more_typed(
         alloc,
         TypedsFound {
@@ -176,11 +186,15 @@ fn more_typed<'a>(
         let Some((at, rest)) = comma(pieces) else {
             return Ok(Some((found, pieces)));
         };
-        let Some((next, rest)) = read_typed(alloc, rest, depth)? else {
-            return Ok(None);
+        let (next, rest) = found_or_let_go!(read_typed(alloc, rest, depth), found);
+        let Ok(()) = found.items.push(next.tree) else {
+            let_go(found);
+            return Err(NoMemory);
         };
-        found.items.push(next.tree)?;
-        found.commas.push(at)?;
+        let Ok(()) = found.commas.push(at) else {
+            let_go(found);
+            return Err(NoMemory);
+        };
         found.deepest = larger(found.deepest, next.depth);
         pieces = onward(rest);
     }

@@ -7,6 +7,8 @@ ghost use Rattle.java_token_cursor.specs.Heads.{Finds};
 ghost use Rattle.java_expr_grammar.specs.Reading as r;
 ghost use Rattle.java_type_parser.specs.Gives.{Gives, TypeFits, TypesFit, type_found, types_found};
 
+use crate::exits::let_go;
+use crate::found_or_let_go;
 use crate::names::{brackets, onward, qualified};
 use j2k_base::NoMemory;
 use java_token_cursor::{Head, Pieces, comma, first};
@@ -78,7 +80,10 @@ pub fn read_type<'a>(
     let Some((found, rest)) = base_step(alloc, pieces, depth - 1)? else {
         return Ok(None);
     };
-    let (pairs, rest) = brackets(alloc, rest)?;
+    let Ok((pairs, rest)) = brackets(alloc, rest) else {
+        let_go(found);
+        return Err(NoMemory);
+    };
     array_by(alloc, depth - 1, found, pairs, rest)
 }
 
@@ -111,13 +116,20 @@ fn array_by<'a>(
     ensures { Gives type_found (TypeFits (depth + 1)) (r.array_by depth found.tree (pairs, shown pieces.now)) result }
 {
     if pairs.is_empty() {
+        let_go(pairs);
         return Ok(Some((found, pieces)));
     }
     if depth < found.depth {
+        let_go(found);
+        let_go(pairs);
         return Ok(None);
     }
     let TypeFound { tree, depth } = found;
-    let tree = JType::Array(Boxed::new(alloc, tree)?, pairs);
+    let Ok(of) = Boxed::new(alloc, tree) else {
+        let_go(pairs);
+        return Err(NoMemory);
+    };
+    let tree = JType::Array(of, pairs);
     Ok(Some((
         TypeFound {
             tree,
@@ -187,10 +199,10 @@ fn applied<'a>(
     requires { depth < usize.MAX }
     ensures { Gives type_found (TypeFits (depth + 1)) (r.applied (r.type_read depth) name lp (shown pieces.now)) result }
 {
-    let Some((args, rest)) = some_types(alloc, pieces, depth)? else {
-        return Ok(None);
-    };
+    let (args, rest) = found_or_let_go!(some_types(alloc, pieces, depth), name);
     let Some(((is_joined, close), rest)) = closes(rest) else {
+        let_go(name);
+        let_go(args);
         return Ok(None);
     };
     let TypesFound {
@@ -222,7 +234,10 @@ fn some_types<'a>(
         return Ok(None);
     };
     let mut items = Items::new(alloc);
-    items.push(found.tree)?;
+    let Ok(()) = items.push(found.tree) else {
+        let_go(items);
+        return Err(NoMemory);
+    };
     more_types(
         alloc,
         TypesFound {
@@ -250,11 +265,15 @@ fn more_types<'a>(
         let Some((at, rest)) = comma(pieces) else {
             return Ok(Some((found, pieces)));
         };
-        let Some((next, rest)) = read_type(alloc, rest, depth)? else {
-            return Ok(None);
+        let (next, rest) = found_or_let_go!(read_type(alloc, rest, depth), found);
+        let Ok(()) = found.items.push(next.tree) else {
+            let_go(found);
+            return Err(NoMemory);
         };
-        found.items.push(next.tree)?;
-        found.commas.push(at)?;
+        let Ok(()) = found.commas.push(at) else {
+            let_go(found);
+            return Err(NoMemory);
+        };
         found.deepest = larger(found.deepest, next.depth);
         pieces = onward(rest);
     }

@@ -202,8 +202,8 @@ params_count d (params.One p) s = name none
 params_count d (params.Several lp ps commas rp) s = sign (before (plain_listed JParam param_tokens Any (λ p s. name none) commas ps (any ps)) (sign none))
 params_count d (params.Typed lp ps commas rp) s = sign (before (plain_listed JTypedParam typed_tokens (TypedStands d) (typed_counts d) commas ps s.1) (sign none))
 
-created_counts : (d : ℕ) (x : JCreated) → created_stands d (TypeStands d) x → Counts [] (created_tokens x)
-created_counts d (created.Type x) s = type_counts d x s.0
+created_counts : (d : ℕ) (x : JCreated) → created_stands d x → Counts [] (created_tokens x)
+created_counts d (created.Type x) s = type_counts (suc d) x s.0
 created_counts d (created.Inferred q lp j close) s = before {x = qualified_tokens q} (name (dotted_counts q.rest)) (sign (sign none))
 
 close_counts : (rp : Position) (body : Option Span) → Counts (body_level body) (args_close rp body ∷ [])
@@ -247,9 +247,9 @@ module _ (d : ℕ) (h : (l : ℕ) (x : JExpr) → Stands d l x → Counts (level
   layer_counts (JExpr-F.Lambda params arrow body) s = deep (before (params_count d params s.0) (sign (h _ body s.1)))
   layer_counts (JExpr-F.LambdaBlock params arrow body) s = before {a = 2 ∷ []} {y = Token.ArrowBody arrow body ∷ []} (params_count d params s.0) (record { same = refl })
   layer_counts (JExpr-F.New at made lp args commas rp body) s = word (before (created_counts d made s.0) (sign (both (deep (all_count any_level commas args s.1 s.2)) (close_counts rp body))))
-  layer_counts (JExpr-F.NewArray at of lb size rb more) s = deep (word (before (type_counts d of s.0) (sign (behind (h _ size s.2) (sign (brackets_counts more))))))
+  layer_counts (JExpr-F.NewArray at of lb size rb more) s = deep (word (before (type_counts (suc d) of s.0) (sign (behind (h _ size s.2) (sign (brackets_counts more))))))
   layer_counts (JExpr-F.NewFilled at of brackets lc inits commas more rc) s =
-      deep (word (before (type_counts d of s.0) (before (brackets_counts brackets) (braces_count lc inits commas more rc s.3 s.4))))
+      deep (word (before (type_counts (suc d) of s.0) (before (brackets_counts brackets) (braces_count lc inits commas more rc s.3 s.4))))
   layer_counts (JExpr-F.Braces lc inits commas more rc) s = deep (braces_count lc inits commas more rc s.0 s.1)
 
 pub expr_counts : (d l : ℕ) (x : JExpr) → Stands d l x → Counts (levels x) (tokens x)

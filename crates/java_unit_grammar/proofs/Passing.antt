@@ -313,8 +313,8 @@ module _ (stop : Stop) where
   params_pass d (params.Several lp ps commas rp) s = opened stop lp rp _ [] (weak stop (idents_pass ps commas)) (none stop)
   params_pass d (params.Typed lp ps commas rp) s = opened stop lp rp _ [] (weak stop (all_typed_pass d ps commas s.1)) (none stop)
 
-  created_passes : (d : ℕ) (x : JCreated) → created_stands d (TypeStands d) x → Passes stop (created_tokens x)
-  created_passes d (created.Type x) s = type_passes d x s.0
+  created_passes : (d : ℕ) (x : JCreated) → created_stands d x → Passes stop (created_tokens x)
+  created_passes d (created.Type x) s = type_passes (suc d) x s.0
   created_passes d (created.Inferred q lp j close) s = both stop (qualified_passes q) (plainly stop refl (plainly stop (closing_plain j) (none stop)))
 
   pub trailing_passes : (more : Option Position) → Passes stop (trailing more)
@@ -359,9 +359,9 @@ module _ (stop : Stop) where
     layer_passes (JExpr-F.New at made lp args commas rp body) s =
         weak stop (plainly stop refl (both stop (created_passes d made s.0) (args_opened stop lp rp body _ (all_begun any_level commas args s.2))))
     layer_passes (JExpr-F.NewArray at of lb size rb more) s =
-        weak stop (plainly stop refl (both stop (type_passes d of s.0) (then_plain stop refl (begun stop (h _ size s.2) (plainly stop refl (brackets_pass more))))))
+        weak stop (plainly stop refl (both stop (type_passes (suc d) of s.0) (then_plain stop refl (begun stop (h _ size s.2) (plainly stop refl (brackets_pass more))))))
     layer_passes (JExpr-F.NewFilled at of brackets lc inits commas more rc) s =
-        weak stop (plainly stop refl (both stop (type_passes d of s.0) (filled_passes brackets _ s.2 (braces_begun lc inits commas more rc s.4))))
+        weak stop (plainly stop refl (both stop (type_passes (suc d) of s.0) (filled_passes brackets _ s.2 (braces_begun lc inits commas more rc s.4))))
     layer_passes (JExpr-F.Braces lc inits commas more rc) s = braces_begun lc inits commas more rc s.1
 
   pub expr_begun : (d l : ℕ) (x : JExpr) → Stands d l x → Begun stop (tokens x)

@@ -21,7 +21,4 @@ use texts::{
     type_text, typed_text,
 };
 pub use units::spell;
-use work::Work;
-
-#[cfg(test)]
-mod tests;
+use work::{Work, let_go};

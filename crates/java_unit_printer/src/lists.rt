@@ -9,7 +9,7 @@ ghost use Rattle.java_unit_printer.specs.Weights.{body_weight, case_weight, catc
 ghost use Rattle.java_unit_printer.specs.Work.{case_tokens, catch_tokens, group_tokens, laid, todo, weight};
 
 use crate::{
-    Work, open_member, open_statement, push, push_block, push_keyword, push_mark, push_plain,
+    Work, let_go, open_member, open_statement, push, push_block, push_keyword, push_mark, push_plain,
     push_text, switch_text, typed_text,
 };
 use j2k_base::NoMemory;
@@ -84,8 +84,7 @@ fn open_case<'a>(alloc: Global, stack: &mut Vec<Work<'a>>, x: &'a JCase) -> Resu
     ensures text { IfOk result (λ u. todo stack.new.items ≡ case_tokens x.now ++ todo stack.old.items) }
     ensures weight { IfOk result (λ u. weight stack.new.items ≤ case_weight x.now + weight stack.old.items) }
 {
-    let text = switch_text(alloc, &x.label)?;
-    push_text(stack, text, x.bodies.as_slice())
+    push_text(stack, switch_text(alloc, &x.label)?, x.bodies.as_slice())
 }
 
 /// Labels of a switch.
@@ -111,10 +110,9 @@ fn open_catch<'a>(alloc: Global, stack: &mut Vec<Work<'a>>, x: &'a JCatch) -> Re
     ensures text { IfOk result (λ u. todo stack.new.items ≡ catch_tokens x.now ++ todo stack.old.items) }
     ensures weight { IfOk result (λ u. weight stack.new.items ≤ catch_weight x.now + weight stack.old.items) }
 {
-    let text = typed_text(alloc, &x.caught)?;
     push_block(stack, x.left, &x.statements, x.right)?;
     push_mark(stack, Mark::CloseRound, x.closes)?;
-    push_plain(stack, text)?;
+    push_plain(stack, typed_text(alloc, &x.caught)?)?;
     push_mark(stack, Mark::OpenRound, x.opens)?;
     push_keyword(stack, Keyword::Catch, x.at)
 }
@@ -169,8 +167,13 @@ fn push_first<'a>(
     ensures text { IfOk result (λ u. todo stack.new.items ≡ written_shown token ∷ (filled (laid text.items) (map body_tokens bodies.now) ++ todo stack.old.items)) }
     ensures weight { IfOk result (λ u. weight stack.new.items ≡ 1 + (text_weight (laid text.items) (map body_weight bodies.now) + weight stack.old.items)) }
 {
-    push(stack, Work::Text(text, bodies))?;
-    push(stack, Work::Token(token))
+    match push(stack, Work::Text(text, bodies)) {
+        Ok(()) => push(stack, Work::Token(token)),
+        Err(error) => {
+            let_go(token);
+            Err(error)
+        }
+    }
 }
 
 /// A mark with the body behind it, and the rest of its text.

@@ -29,8 +29,7 @@ fn push_constants<'a>(
     match x {
         None => Ok(()),
         Some(constants) => {
-            let text = constants_text(alloc, constants)?;
-            push_text(stack, text, bodies)
+            push_text(stack, constants_text(alloc, constants)?, bodies)
         }
     }
 }
@@ -47,22 +46,19 @@ pub fn open_member<'a>(
 {
     match x {
         JMember::Declared(head, bodies, end) => {
-            let text = member_text(alloc, head)?;
             push_mark(stack, Mark::Semicolon, *end)?;
-            push_text(stack, text, bodies.as_slice())
+            push_text(stack, member_text(alloc, head)?, bodies.as_slice())
         }
         JMember::Bodied(head, left, inside, right) => {
-            let text = member_text(alloc, head)?;
             push_block(stack, *left, inside, *right)?;
-            push_plain(stack, text)
+            push_plain(stack, member_text(alloc, head)?)
         }
         JMember::Type(head, left, constants, bodies, members, right) => {
-            let text = type_text(alloc, head)?;
             push_mark(stack, Mark::CloseCurly, *right)?;
             push(stack, Work::Members(members.as_slice()))?;
             push_constants(alloc, stack, constants, bodies.as_slice())?;
             push_mark(stack, Mark::OpenCurly, *left)?;
-            push_plain(stack, text)
+            push_plain(stack, type_text(alloc, head)?)
         }
     }
 }

@@ -9,7 +9,7 @@ ghost use Rattle.java_unit_grammar.specs.Tokens.{body_tokens, braced, filled, he
 ghost use Rattle.java_unit_printer.specs.Weights.{body_weight, statement_weight, text_weight, total};
 ghost use Rattle.java_unit_printer.specs.Work.{laid, todo, weight, work_tokens, work_weight};
 
-use crate::{Work, expression_text};
+use crate::{Work, expression_text, let_go};
 use j2k_base::{Name, NoMemory};
 use java_expr_printer::{Written, copied};
 use java_tree::{JExpr, JToken, Keyword, Mark, Position, TokenKind};
@@ -140,7 +140,10 @@ pub fn push_headed<'a>(
     ensures text { IfOk result (λ u. todo stack.new.items ≡ headed (word_seen word at) lp (filled (shown text.items) (map body_tokens bodies.now)) rp (todo stack.old.items)) }
     ensures weight { IfOk result (λ u. weight stack.new.items ≡ 3 + (text_weight (shown text.items) (map body_weight bodies.now) + weight stack.old.items)) }
 {
-    push_mark(stack, Mark::CloseRound, rp)?;
+    if let Err(error) = push_mark(stack, Mark::CloseRound, rp) {
+        let_go(text);
+        return Err(error);
+    }
     push_text(stack, text, bodies.as_slice())?;
     push_mark(stack, Mark::OpenRound, lp)?;
     push_keyword(stack, word, at)

@@ -91,9 +91,8 @@ pub fn open_statement<'a>(
 {
     match x {
         JStatement::Simple(head, bodies, end) => {
-            let text = simple_text(alloc, head)?;
             push_mark(stack, Mark::Semicolon, *end)?;
-            push_text(stack, text, bodies.as_slice())
+            push_text(stack, simple_text(alloc, head)?, bodies.as_slice())
         }
         JStatement::Block(left, inside, right) => { push_block(stack, *left, inside, *right) }
         JStatement::Labeled(name, at, colon, body) => {
@@ -102,13 +101,13 @@ pub fn open_statement<'a>(
             push_name(alloc, stack, name, *at)
         }
         JStatement::For(at, lp, head, bodies, rp, body) => {
-            let text = for_text(alloc, head)?;
             push(stack, Work::Statement(body))?;
+            let text = for_text(alloc, head)?;
             push_headed(stack, Keyword::For, *at, *lp, text, bodies, *rp)
         }
         JStatement::Synchronized(at, lp, lock, bodies, rp, left, inside, right) => {
-            let text = lock_text(alloc, lock)?;
             push_block(stack, *left, inside, *right)?;
+            let text = lock_text(alloc, lock)?;
             push_headed(stack, Keyword::Synchronized, *at, *lp, text, bodies, *rp)
         }
         JStatement::Try(..) | JStatement::TryFinally(..) => open_tried(stack, x),

@@ -108,23 +108,41 @@ fn put_imports(alloc: Global, out: &mut Vec<Written>, items: &[JImport]) -> Resu
 
 /// The lines before the types.
 #[tactic(auto, using(java_expr_printer::proofs::LawsToCite::joins))]
+fn put_lines(alloc: Global, out: &mut Vec<Written>, unit: &JUnit) -> Result<(), NoMemory>
+    ensures { IfOk result (λ u. shown out.new.items ≡ shown out.old.items ++ (package_part unit.now.package ++ joined (map import_tokens unit.now.imports))) }
+{
+    put_package_part(alloc, out, &unit.package)?;
+    put_imports(alloc, out, unit.imports.as_slice())
+}
+
+#[tactic(auto, using(java_expr_printer::proofs::LawsToCite::joins))]
 fn lines(alloc: Global, unit: &JUnit) -> Result<Vec<Written>, NoMemory>
     ensures { IfOk result (λ text. shown text.items ≡ package_part unit.now.package ++ joined (map import_tokens unit.now.imports)) }
 {
     let mut text = Vec::new(alloc);
-    put_package_part(alloc, &mut text, &unit.package)?;
-    put_imports(alloc, &mut text, unit.imports.as_slice())?;
+    put_lines(alloc, &mut text, unit)?;
     Ok(text)
 }
 
+/// A unit on the stack.
 #[tactic(auto, using(crate::proofs::Stack::stacks), unfolding(java_unit_grammar::specs::Tokens::unit_tokens))]
+fn push_unit<'a>(
+    alloc: Global,
+    stack: &mut Vec<Work<'a>>,
+    unit: &'a JUnit,
+) -> Result<(), NoMemory>
+    ensures { IfOk result (λ u. todo stack.new.items ≡ unit_tokens unit.now ++ todo stack.old.items) }
+{
+    push(stack, Work::Members(unit.types.as_slice()))?;
+    push_plain(stack, lines(alloc, unit)?)
+}
+
+#[tactic(auto, using(crate::proofs::Stack::stacks))]
 fn tokens(alloc: Global, unit: &JUnit) -> Result<Vec<JToken>, NoMemory>
     ensures { IfOk result (λ v. seen v.items ≡ expanded [] (unit_tokens unit.now)) }
 {
-    let text = lines(alloc, unit)?;
     let mut stack = Vec::new(alloc);
-    push(&mut stack, Work::Members(unit.types.as_slice()))?;
-    push_plain(&mut stack, text)?;
+    push_unit(alloc, &mut stack, unit)?;
     run(alloc, stack)
 }
 

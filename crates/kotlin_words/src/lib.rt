@@ -4,6 +4,3 @@
 mod words;
 
 pub use words::{is_hard_keyword, is_reserved_name};
-
-#[cfg(test)]
-mod tests;

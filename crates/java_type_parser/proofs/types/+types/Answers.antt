@@ -21,7 +21,8 @@ pub read_type-returns : goal.read_type-returns
 read_type-returns t c =
     let e : suc (c.args.depth - 1) ≡ c.args.depth = omega arith in
     let h = rw c.in-Some.is at c.in_ok-found.ensures in
-    let same = read_more (c.args.depth - 1) (shown c.args.pieces.now) _ _ _ h.0 c.in_ok-pairs.ensures in
+    let pairs = rw c.in-Ok.is at c.brackets.ensures in
+    let same = read_more (c.args.depth - 1) (shown c.args.pieces.now) _ _ _ h.0 pairs in
     let given = rw (add-one (c.args.depth - 1)) at c.array_by.ensures in
     subst (λ n. Gives type_found (TypeFits n) (r.type_read n (shown c.args.pieces.now)) c.array_by.result) e
     (subst (λ o. Gives type_found (TypeFits (suc (c.args.depth - 1))) o c.array_by.result) (sym same) given)

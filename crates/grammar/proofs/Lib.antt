@@ -1,0 +1,4 @@
+pub mod Soundness
+pub mod Completeness
+pub mod Bound
+pub mod LawsToCite
