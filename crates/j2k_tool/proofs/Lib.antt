@@ -9,3 +9,4 @@ pub mod Projects
 pub mod Uniqueness
 pub mod Steps
 pub mod Writes
+pub mod MainTexts

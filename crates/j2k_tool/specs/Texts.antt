@@ -25,7 +25,3 @@ report_name = codes "j2k-report.txt"
 -- the end of a Kotlin file's name
 abbrev pub kotlin_end : List ℕ
 kotlin_end = codes ".kt"
-
--- what stands before the statements of a `main`, by the name of its parameter
-abbrev pub main_open : List ℕ → List ℕ
-main_open parameter = codes "    companion object {\n        @JvmStatic fun main(" ++ parameter ++ codes ": Array<String>) {\n"

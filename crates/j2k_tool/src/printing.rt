@@ -1,7 +1,6 @@
 // The canonical text of a Kotlin tree.
 ghost use Rattle.std.specs.Prelude.{◌≡◌, ◌++◌, Some, OnOk, IfOk};
 ghost use Rattle.std.specs.List.{flat_map};
-ghost use Rattle.j2k_tool.specs.Texts.{main_open};
 ghost use Rattle.meanings.specs.KText.{operator_text, expression_text, statement_text, main_text, class_text, part_text, package_text, KText};
 
 use j2k_base::{Name, NoMemory, Text};
@@ -81,6 +80,7 @@ fn push_main(alloc: Global, out: &mut Text, main: &Option<KMain>) -> Result<(), 
     }
 }
 
+#[tactic(auto, using(crate::proofs::MainTexts::texts))]
 fn push_some_main(alloc: Global, out: &mut Text, main: &KMain) -> Result<(), NoMemory>
     ensures { OnOk result (out.new ≡ out.old ++ main_text (Some main.now)) }
 {
@@ -91,7 +91,7 @@ fn push_some_main(alloc: Global, out: &mut Text, main: &KMain) -> Result<(), NoM
 
 /// What stands before the statements of `main`.
 fn push_head(out: &mut Text, parameter: &Name) -> Result<(), NoMemory>
-    ensures { OnOk result (out.new ≡ out.old ++ main_open parameter.now) }
+    ensures { OnOk result (out.new ≡ out.old ++ KOTLIN_MAIN.now ++ parameter.now ++ KOTLIN_MAIN_OPEN.now) }
 {
     out.push_str(KOTLIN_MAIN)?;
     out.push_str(parameter.as_str())?;
