@@ -80,7 +80,6 @@ fn push_main(alloc: Global, out: &mut Text, main: &Option<KMain>) -> Result<(), 
     }
 }
 
-#[tactic(auto, using(crate::proofs::MainTexts::texts))]
 fn push_some_main(alloc: Global, out: &mut Text, main: &KMain) -> Result<(), NoMemory>
     ensures { OnOk result (out.new ≡ out.old ++ main_text (Some main.now)) }
 {
