@@ -46,8 +46,12 @@ fn put_lexed(
     }
 }
 
-/// The letters of a text, and 0 at its end.
+/// The letters of a short text, and 0 at its end.
 fn put_letters(text: &[u8], out: &mut String) -> Result<(), NoMemory> {
+    if text.len() >= 10_000 {
+        out.push_str("too long")?;
+        return Ok(());
+    }
     let mut before = "";
     for number in 0..text.len() {
         let code = head_at(text, skip(text, number, start()));
