@@ -7,6 +7,7 @@ use java_exprs::parse_expr;
 use java_lexer::lex;
 use java_parser::parse;
 use java_tree::{JExpr, JToken, Tokens};
+use java_unit_grammar::JUnit;
 use sqlite_items::Boxed;
 use std::alloc::Global;
 use std::fmt::Write;
@@ -48,9 +49,18 @@ fn put_compared(
     Ok(())
 }
 
+fn parsed(alloc: Global, text: &[u8]) -> Result<JUnit, Stop> {
+    let path = Text::from_str(alloc, "A.java")?;
+    if text.len() < 100_000 {
+        parse(alloc, lex(alloc, &path, text)?)
+    } else {
+        Err(Stop::Memory)
+    }
+}
+
 /// The tokens of the tree of a file.
 fn spelled_file(alloc: Global, text: &[u8]) -> Result<Tokens, Stop> {
-    let unit = parse(alloc, lexed(alloc, text)?)?;
+    let unit = parsed(alloc, text)?;
     Ok(java_unit_printer::spell(alloc, &unit)?)
 }
 
