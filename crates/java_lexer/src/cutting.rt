@@ -1,11 +1,14 @@
 // A text is cut into white space, comments and tokens.
 
-ghost use Rattle.std.specs.Prelude.{◌≡◌, ◌-◌, ◌^◌, ◌<◌, ◌≤◌, ◌++◌, length, false, IfOk, OnOk};
-ghost use Rattle.java_characters.specs.Letters.{letters, IsAt, IsFrom};
-ghost use Rattle.java_lexer.specs.Found.{cut_of, is_last};
+ghost use Rattle.std.specs.Prelude.{◌≡◌, ◌-◌, ◌^◌, ◌<◌, ◌≤◌, ◌++◌, length, false, IfOk, IsTrue, OnOk};
+ghost use Rattle.java_tree.specs.declared.tokens.Position.{Position};
+ghost use Rattle.java_characters.specs.Letters.{Letters, letters, IsAt, IsFrom};
+ghost use Rattle.java_lexer.specs.declared.found.Code.TheVariants.{Outside};
+ghost use Rattle.java_lexer.specs.declared.found.Piece.TheVariants.{End};
+ghost use Rattle.java_lexer.specs.Found.{cut_of, fault, is_last};
 ghost use Rattle.java_lexer.specs.Cutting.{is_minus, before_mark, before_kind, before_next, is_override, annotated, behind_at, is_cut, judged, next_piece, token_in, comment_in, end_fault, fault_of, Reading};
 
-use crate::found::{Code, Found, LexFault, Piece, fault};
+use crate::found::{Code, Found, LexFault, Piece, fault, let_go};
 use crate::pieces::piece_of;
 use j2k_base::NoMemory;
 use java_characters::{Cursor, Ending, Front, front_at, start};
@@ -78,33 +81,30 @@ fn is_last(piece: &Piece) -> bool
     }
 }
 
+/// Whether a piece may stand behind an `@`.
+fn may_follow_at(piece: &Piece) -> bool
+    ensures kept { IsTrue result → (p : Position) (rest : Letters) → behind_at p piece.now rest ≡ record { piece = piece.now; rest = rest } }
+    ensures outside { result ≡ false → (p : Position) (rest : Letters) → behind_at p piece.now rest ≡ fault Outside p rest }
+{
+    match piece {
+        Piece::Token(token) => is_override(&token.kind),
+        Piece::Comment(_) => true,
+        Piece::White => true,
+        _ => false,
+    }
+}
+
 fn behind_at(position: Position, found: Found, bytes: &[u8]) -> Found
     ensures value { cut_of bytes.now result ≡ behind_at position found.piece (letters bytes.now found.next) }
     ensures next { result.next ≡ found.next }
     ensures last { is_last result.piece ≡ false → is_last found.piece ≡ false }
 {
-    let Found { piece, next } = found;
-    match piece {
-        Piece::Token(token) => {
-            if is_override(&token.kind) {
-                Found {
-                    piece: Piece::Token(token),
-                    next,
-                }
-            } else {
-                fault(Code::Outside, position, next)
-            }
-        }
-        Piece::Comment(comment) => Found {
-            piece: Piece::Comment(comment),
-            next,
-        },
-        Piece::White => Found {
-            piece: Piece::White,
-            next,
-        },
-        _ => fault(Code::Outside, position, next),
+    if may_follow_at(&found.piece) {
+        return found;
     }
+    let next = found.next;
+    let_go(found);
+    fault(Code::Outside, position, next)
 }
 
 fn annotated(before: Before, found: Found, bytes: &[u8]) -> Found
@@ -127,6 +127,21 @@ fn is_cut(ending: Ending) -> bool
     }
 }
 
+/// Whether something is a fault since its text was cut there.
+fn is_cut_off(found: &Found, bytes: &[u8]) -> bool
+    requires { IsAt bytes.now found.now.next }
+    ensures off { IsTrue result → judged (cut_of bytes.now found.now) ≡ record { piece = End; rest = letters bytes.now found.now.next } }
+    ensures whole { result ≡ false → judged (cut_of bytes.now found.now) ≡ cut_of bytes.now found.now }
+{
+    let Piece::Fault(_) = &found.piece else {
+        return false;
+    };
+    match front_at(bytes, found.next) {
+        Front::Stop(ending, _) => is_cut(ending),
+        Front::Letter(..) => false,
+    }
+}
+
 /// Where the text was cut, what reaches its end is no fault of its own.
 fn judged(found: Found, bytes: &[u8]) -> Found
     requires { IsAt bytes.now found.next }
@@ -134,15 +149,15 @@ fn judged(found: Found, bytes: &[u8]) -> Found
     ensures next { result.next ≡ found.next }
     ensures last { is_last result.piece ≡ false → is_last found.piece ≡ false }
 {
-    let Found { piece, next } = found;
-    let Piece::Fault(fault) = piece else {
-        return Found { piece, next };
-    };
-    let piece = match front_at(bytes, next) {
-        Front::Stop(ending, _) if is_cut(ending) => Piece::End,
-        _ => Piece::Fault(fault),
-    };
-    Found { piece, next }
+    if !is_cut_off(&found, bytes) {
+        return found;
+    }
+    let next = found.next;
+    let_go(found);
+    Found {
+        piece: Piece::End,
+        next,
+    }
 }
 
 /// The piece that the text begins with at a place, behind this token.
@@ -175,14 +190,13 @@ fn end_fault(bytes: &[u8], at: Cursor) -> Option<LexFault>
     }
 }
 
-fn fault_of(found: Found, bytes: &[u8]) -> Option<LexFault>
-    requires { IsAt bytes.now found.next }
-    ensures { result ≡ fault_of found.piece (letters bytes.now found.next) }
+fn fault_of(found: &Found, bytes: &[u8]) -> Option<LexFault>
+    requires { IsAt bytes.now found.now.next }
+    ensures { result ≡ fault_of found.now.piece (letters bytes.now found.now.next) }
 {
-    let Found { piece, next } = found;
-    match piece {
-        Piece::Fault(fault) => Some(fault),
-        Piece::End => end_fault(bytes, next),
+    match &found.piece {
+        Piece::Fault(fault) => Some(*fault),
+        Piece::End => end_fault(bytes, found.next),
         _ => None,
     }
 }
@@ -219,7 +233,8 @@ pub fn reading_of(alloc: Global, bytes: &[u8]) -> Result<Read, NoMemory>
     'pieces: loop {
         let found = next_piece(alloc, before, bytes, at)?;
         if is_last(&found.piece) {
-            let fault = fault_of(found, bytes);
+            let fault = fault_of(&found, bytes);
+            let_go(found);
             return Ok(Read {
                 tokens,
                 comments,

@@ -6,7 +6,7 @@ use java_characters::Cursor;
 use java_tree::{Comment, JToken, Position, TokenKind};
 
 /// Why no case applies.
-#[derive(Clone, Copy, Debug, PartialEq, Eq)]
+#[derive(Clone, Copy)]
 pub enum Code {
     /// L1: a byte that is no UTF-8.
     Utf8,
@@ -23,14 +23,14 @@ pub enum Code {
 }
 
 /// The first place where no case applies, and why.
-#[derive(Clone, Copy, Debug)]
+#[derive(Clone, Copy)]
 pub struct LexFault {
     pub code: Code,
     pub position: Position,
 }
 
 /// What a text begins with.
-#[derive(Debug, Drop)]
+#[derive(Drop)]
 pub enum Piece {
     /// Nothing: the text ends.
     End,
@@ -41,11 +41,14 @@ pub enum Piece {
 }
 
 /// A piece, and the place behind it.
-#[derive(Debug, Drop)]
+#[derive(Drop)]
 pub struct Found {
     pub piece: Piece,
     pub next: Cursor,
 }
+
+/// Lets a value go. As a call it costs the proof of the one who calls nothing.
+pub fn let_go<T: Drop>(_value: T) {}
 
 pub fn fault(code: Code, position: Position, next: Cursor) -> Found
     ensures { result ≡ record { piece = Piece.Fault (record { code = code; position = position }); next = next } }

@@ -13,7 +13,7 @@ use java_tree::{Position, TokenKind};
 use std::alloc::Global;
 
 /// What a letter of a String literal means.
-#[derive(Clone, Copy, Debug)]
+#[derive(Clone, Copy)]
 pub enum Quoted {
     /// The literal ends.
     Close,

@@ -6,7 +6,7 @@ ghost use Rattle.java_lexer.specs.Marks.{either, doubled, minus, less, greater, 
 use java_tree::Mark;
 
 /// What a text begins with, among the marks, and how many letters belong to it behind the first.
-#[derive(Clone, Copy, Debug)]
+#[derive(Clone, Copy)]
 pub enum MarkKind {
     Nothing,
     /// A mark outside the profile.

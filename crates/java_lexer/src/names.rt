@@ -5,7 +5,7 @@ ghost use Rattle.java_characters.specs.Letters.{letters, IsAt, IsFrom};
 ghost use Rattle.java_lexer.specs.Found.{cut_of};
 ghost use Rattle.java_lexer.specs.Names.{is_start, is_continue, name_of, dollar_in, word_rest, named, word_piece};
 
-use crate::found::{Code, Found, fault, token};
+use crate::found::{Code, Found, fault, let_go, token};
 use j2k_base::{Name, NoMemory};
 use java_characters::{Cursor, Front, front_at};
 use java_keywords::{WordKind, word_kind};
@@ -83,8 +83,14 @@ fn named(
     ensures next { result.next ≡ next }
 {
     match kind {
-        Some(WordKind::Keyword(keyword)) => token(TokenKind::Keyword(keyword), position, next),
-        Some(WordKind::Outside) => fault(Code::Outside, position, next),
+        Some(WordKind::Keyword(keyword)) => {
+            let_go(name);
+            token(TokenKind::Keyword(keyword), position, next)
+        }
+        Some(WordKind::Outside) => {
+            let_go(name);
+            fault(Code::Outside, position, next)
+        }
         None => token(TokenKind::Name(name), position, next),
     }
 }
@@ -104,7 +110,9 @@ pub fn word_piece(
 {
     let word = word_at(alloc, first, bytes, at)?;
     if word.dollar {
-        return Ok(fault(Code::Outside, position, word.next));
+        let next = word.next;
+        let_go(word);
+        return Ok(fault(Code::Outside, position, next));
     }
     let kind = word_kind(word.name.as_bytes());
     Ok(named(kind, word.name, position, word.next, bytes))

@@ -36,7 +36,7 @@ fn value_with(radix: u32, value: u128, code: u32) -> u128
 }
 
 /// The digits and `_` at the front of a text.
-#[derive(Clone, Copy, Debug)]
+#[derive(Clone, Copy)]
 struct Run {
     value: u128,
     last: u32,

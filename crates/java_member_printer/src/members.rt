@@ -4,6 +4,7 @@ ghost use Rattle.std.specs.Prelude.{◌≡◌, ◌++◌, [], ◌∷◌, IfOk, co
 ghost use Rattle.java_tree.specs.Seen.{Token, word_seen};
 ghost use Rattle.java_tree.specs.Trees.{listed, more_tokens};
 ghost use Rattle.java_tree.specs.declared.tokens.Position.{Position};
+ghost use Rattle.java_tree.specs.declared.tokens.Keyword.TheVariants as w;
 ghost use Rattle.java_tree.specs.declared.tokens.Mark.TheVariants as m;
 ghost use Rattle.java_member_grammar.specs.Heads as h;
 ghost use Rattle.java_expr_printer.specs.Shown.{shown};
@@ -199,6 +200,23 @@ fn put_static(out: &mut Vec<Written>, x: Option<Position>) -> Result<(), NoMemor
     }
 }
 
+/// The name of a method or a constructor, and what stands behind it.
+#[tactic(auto, using(java_expr_printer::proofs::LawsToCite::joins))]
+fn put_callable(
+    alloc: Global,
+    out: &mut Vec<Written>,
+    name: &Name,
+    at: Position,
+    formals: &JFormals,
+    throws: &Option<JTypeList>,
+) -> Result<(), NoMemory>
+    ensures { IfOk result (λ u. shown out.new.items ≡ shown out.old.items ++ Token.Id name.now at ∷ (h.formals_tokens formals.now ++ h.list_tokens w.Throws throws.now)) }
+{
+    put_word(alloc, out, name, at)?;
+    put_formals(alloc, out, formals)?;
+    put_type_list(alloc, out, Keyword::Throws, throws)
+}
+
 /// What stands of a member before its `;` or its block (JLS 8.1.6, 9.1.4).
 #[tactic(auto, using(java_expr_printer::proofs::LawsToCite::joins))]
 pub fn put_member(alloc: Global, out: &mut Vec<Written>, x: &JMemberHead) -> Result<(), NoMemory>
@@ -214,18 +232,33 @@ pub fn put_member(alloc: Global, out: &mut Vec<Written>, x: &JMemberHead) -> Res
             put_modifiers(alloc, out, mods.as_slice())?;
             put_angled(alloc, out, params)?;
             put_result(alloc, out, kind)?;
-            put_word(alloc, out, name, *at)?;
-            put_formals(alloc, out, formals)?;
-            put_type_list(alloc, out, Keyword::Throws, throws)
+            put_callable(alloc, out, name, *at, formals, throws)
         }
         JMemberHead::Constructor(mods, name, at, formals, throws) => {
             put_modifiers(alloc, out, mods.as_slice())?;
-            put_word(alloc, out, name, *at)?;
-            put_formals(alloc, out, formals)?;
-            put_type_list(alloc, out, Keyword::Throws, throws)
+            put_callable(alloc, out, name, *at, formals, throws)
         }
         JMemberHead::Initializer(at) => put_static(out, *at),
     }
+}
+
+/// The modifiers, the word and the name of a type.
+#[tactic(auto, using(java_expr_printer::proofs::LawsToCite::joins))]
+fn put_named(
+    alloc: Global,
+    out: &mut Vec<Written>,
+    mods: &[JModifier],
+    word: Keyword,
+    at: Position,
+    name: &Name,
+    name_at: Position,
+) -> Result<(), NoMemory>
+    requires { (at : Position) → word_seen word at ≡ Token.Word word at }
+    ensures { IfOk result (λ u. shown out.new.items ≡ shown out.old.items ++ (h.modifiers_tokens mods.now ++ Token.Word word at ∷ Token.Id name.now name_at ∷ [])) }
+{
+    put_modifiers(alloc, out, mods)?;
+    put_keyword(out, word, at)?;
+    put_word(alloc, out, name, name_at)
 }
 
 /// What stands of a type before its body (JLS 8.1, 8.9, 9.1).
@@ -235,24 +268,42 @@ pub fn put_type_head(alloc: Global, out: &mut Vec<Written>, x: &JTypeHead) -> Re
 {
     match x {
         JTypeHead::Class(mods, at, name, name_at, params, above, faces) => {
-            put_modifiers(alloc, out, mods.as_slice())?;
-            put_keyword(out, Keyword::Class, *at)?;
-            put_word(alloc, out, name, *name_at)?;
+            put_named(
+                alloc,
+                out,
+                mods.as_slice(),
+                Keyword::Class,
+                *at,
+                name,
+                *name_at,
+            )?;
             put_angled(alloc, out, params)?;
             put_bound(alloc, out, above)?;
             put_type_list(alloc, out, Keyword::Implements, faces)
         }
         JTypeHead::Interface(mods, at, name, name_at, params, above) => {
-            put_modifiers(alloc, out, mods.as_slice())?;
-            put_keyword(out, Keyword::Interface, *at)?;
-            put_word(alloc, out, name, *name_at)?;
+            put_named(
+                alloc,
+                out,
+                mods.as_slice(),
+                Keyword::Interface,
+                *at,
+                name,
+                *name_at,
+            )?;
             put_angled(alloc, out, params)?;
             put_type_list(alloc, out, Keyword::Extends, above)
         }
         JTypeHead::Enum(mods, at, name, name_at, faces) => {
-            put_modifiers(alloc, out, mods.as_slice())?;
-            put_keyword(out, Keyword::Enum, *at)?;
-            put_word(alloc, out, name, *name_at)?;
+            put_named(
+                alloc,
+                out,
+                mods.as_slice(),
+                Keyword::Enum,
+                *at,
+                name,
+                *name_at,
+            )?;
             put_type_list(alloc, out, Keyword::Implements, faces)
         }
     }

@@ -1,7 +1,9 @@
 //! What stands in a statement besides other statements.
 
 ghost use Rattle.std.specs.Prelude.{◌≡◌, ◌++◌, [], ◌∷◌, IfOk, map};
-ghost use Rattle.java_tree.specs.Trees.{listed, more_tokens};
+ghost use Rattle.java_tree.specs.Seen.{Token, word_seen};
+ghost use Rattle.java_tree.specs.Trees.{listed, more_tokens, tokens};
+ghost use Rattle.java_tree.specs.declared.tokens.Mark.TheVariants as m;
 ghost use Rattle.java_statement_grammar.specs.Heads as h;
 ghost use Rattle.java_expr_printer.specs.Shown.{shown};
 
@@ -15,6 +17,7 @@ use java_statement_grammar::{
     JValue,
 };
 use java_tree::{JExpr, Keyword, Mark, Position};
+use sqlite_items::Items;
 use std::alloc::Global;
 
 #[tactic(auto, using(java_expr_printer::proofs::LawsToCite::joins))]
@@ -112,6 +115,39 @@ fn put_maybe(alloc: Global, out: &mut Vec<Written>, x: &Option<JExpr>) -> Result
     }
 }
 
+/// `break` or `continue`, with its label where it has one (JLS 14.15, 14.16).
+#[tactic(auto, using(java_expr_printer::proofs::LawsToCite::joins))]
+fn put_jump(
+    alloc: Global,
+    out: &mut Vec<Written>,
+    word: Keyword,
+    at: Position,
+    label: &Option<JLabelName>,
+) -> Result<(), NoMemory>
+    ensures { IfOk result (λ u. shown out.new.items ≡ shown out.old.items ++ word_seen word at ∷ h.label_tokens label.now) }
+{
+    put_keyword(out, word, at)?;
+    put_label(alloc, out, label)
+}
+
+/// A call of another constructor (JLS 8.8.7.1).
+#[tactic(auto, using(java_expr_printer::proofs::LawsToCite::joins))]
+fn put_chained(
+    alloc: Global,
+    out: &mut Vec<Written>,
+    word: Keyword,
+    at: Position,
+    lp: Position,
+    items: &Items<JExpr>,
+    commas: &Items<Position>,
+    rp: Position,
+) -> Result<(), NoMemory>
+    ensures { IfOk result (λ u. shown out.new.items ≡ shown out.old.items ++ word_seen word at ∷ Token.Sign m.OpenRound lp ∷ (listed commas.now (map tokens items.now) ++ Token.Sign m.CloseRound rp ∷ [])) }
+{
+    put_keyword(out, word, at)?;
+    put_args(alloc, out, lp, items, commas, rp)
+}
+
 /// What stands before the `;` of a statement that holds no other (JLS 14).
 #[tactic(auto, using(java_expr_printer::proofs::LawsToCite::joins))]
 pub fn put_simple(alloc: Global, out: &mut Vec<Written>, x: &JSimple) -> Result<(), NoMemory>
@@ -121,14 +157,8 @@ pub fn put_simple(alloc: Global, out: &mut Vec<Written>, x: &JSimple) -> Result<
         JSimple::Empty => Ok(()),
         JSimple::Declaration(declaration) => put_declaration(alloc, out, declaration),
         JSimple::Expression(tree) => put_expr(alloc, out, tree),
-        JSimple::Break(at, label) => {
-            put_keyword(out, Keyword::Break, *at)?;
-            put_label(alloc, out, label)
-        }
-        JSimple::Continue(at, label) => {
-            put_keyword(out, Keyword::Continue, *at)?;
-            put_label(alloc, out, label)
-        }
+        JSimple::Break(at, label) => put_jump(alloc, out, Keyword::Break, *at, label),
+        JSimple::Continue(at, label) => put_jump(alloc, out, Keyword::Continue, *at, label),
         JSimple::Return(at, tree) => {
             put_keyword(out, Keyword::Return, *at)?;
             put_maybe(alloc, out, tree)
@@ -138,12 +168,10 @@ pub fn put_simple(alloc: Global, out: &mut Vec<Written>, x: &JSimple) -> Result<
             put_expr(alloc, out, tree)
         }
         JSimple::ThisCall(at, lp, items, commas, rp) => {
-            put_keyword(out, Keyword::This, *at)?;
-            put_args(alloc, out, *lp, items, commas, *rp)
+            put_chained(alloc, out, Keyword::This, *at, *lp, items, commas, *rp)
         }
         JSimple::SuperCall(at, lp, items, commas, rp) => {
-            put_keyword(out, Keyword::Super, *at)?;
-            put_args(alloc, out, *lp, items, commas, *rp)
+            put_chained(alloc, out, Keyword::Super, *at, *lp, items, commas, *rp)
         }
     }
 }
