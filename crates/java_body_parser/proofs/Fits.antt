@@ -1,5 +1,5 @@
 -- What is cut off pieces, and what follows it.
-use Rattle.std.proofs.Common.{◌≡◌, ◌≤◌, ◌<◌, ◌^◌, ℕ, List, [], ◌∷◌, length, Option, Some, None, Result, Ok, Err, arith}
+use Rattle.std.proofs.Common.{◌≡◌, ◌<◌, ◌^◌, ℕ, List, [], ◌∷◌, length, Option, Some, None, Result, Ok, Err, arith}
 use Rattle.std.specs.Borrow.{Bor}
 use Rattle.j2k_base.specs.declared.errors.NoMemory.{NoMemory}
 use Rattle.java_token_cursor.specs.declared.piece.Piece.{Piece}

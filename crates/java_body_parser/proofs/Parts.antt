@@ -2,9 +2,9 @@
 use Rattle.std.proofs.Common.{◌≡◌, ◌+◌, ℕ, zero, suc, None, refl, ap, ◌∙◌, arith}
 use Rattle.java_tree.specs.Seen.{Tokens}
 use Rattle.java_unit_grammar.specs.Reading.{readers}
-use Rattle.java_body_parser.specs.declared.asks.Ask.{Ask}
-use Rattle.java_body_parser.specs.declared.asks.Ask.TheVariants as ask
-use Rattle.java_body_parser.specs.Asks.{asked, stepped}
+use Rattle.java_block_parser.specs.declared.asks.Ask.{Ask}
+use Rattle.java_block_parser.specs.declared.asks.Ask.TheVariants as ask
+use Rattle.java_block_parser.specs.Asks.{asked, stepped}
 
 one_step : (n d : ℕ) (x : Ask) (ts : Tokens) → asked (readers (suc n)) x (suc d) ts ≡ stepped (readers n) d x ts
 unfolding readers

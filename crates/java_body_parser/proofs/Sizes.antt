@@ -1,18 +1,11 @@
 -- What follows what is read is no longer.
-use Rattle.std.proofs.Common.{◌≡◌, ◌≤◌, ◌<◌, ◌+◌, ◌-◌, ℕ, zero, suc, Bool, true, false, List, [], ◌∷◌, ◌++◌, length, take, drop, Option, Some, None, inl, inr, refl, ap, sym, ◌∙◌, subst, length-take, length-drop, arith}
+use Rattle.std.proofs.Common.{◌≡◌, ◌≤◌, ◌-◌, ℕ, zero, suc, Bool, true, false, List, [], ◌∷◌, length, drop, Option, Some, None, inl, inr, refl, ap, subst, length-take, length-drop, arith}
 use Rattle.std.proofs.lemmas.List.{length-append}
 use Rattle.java_tree.specs.declared.tokens.Mark.TheVariants as m
 use Rattle.java_tree.specs.declared.exprs.Span.{Span}
-use Rattle.java_tree.specs.declared.exprs.JTypedParam.{JTypedParam}
-use Rattle.java_tree.specs.Trees.{typed_tokens}
 use Rattle.java_tree.specs.Seen.{Token, Tokens, body}
-use Rattle.java_expr_grammar.specs.Reading.{Read, ◌>>=◌, typed_read}
-use Rattle.java_expr_grammar.proofs.LawsToCite.{bind_some, maybe_is, some_same, typed_sound}
-use Rattle.java_unit_grammar.specs.Cutting.{Stop, Weight, token_weight, turn, is_raw, behind, Cut, cut_step, cut_raw, cut_by, cut}
-use Rattle.java_unit_grammar.specs.Reading.{before_curly}
-use Rattle.java_token_cursor.specs.declared.piece.Piece.{Piece}
-use Rattle.java_token_cursor.specs.Shown.{shown}
-use Rattle.java_type_parser.proofs.LawsToCite.{length_shown}
+use Rattle.java_expr_grammar.proofs.LawsToCite.{bind_some, maybe_is, some_same}
+use Rattle.java_unit_grammar.specs.Cutting.{Stop, token_weight, turn, is_raw, behind, Cut, cut_step, cut_raw, cut_by, cut}
 use Rattle.java_unit_grammar.proofs.LawsToCite.{found}
 
 -- no text of the list is longer
@@ -68,25 +61,3 @@ cut_by_within stop (suc f) end k n (x ∷ ts) c within e = elim (maybe_is (turn 
 
 pub cut_within : (stop : Stop) (ts : Tokens) (c : Cut) → cut stop ts ≡ Some c → CutWithin (length ts) c
 cut_within stop ts c e = cut_by_within stop (length ts) (length ts) 0 (length ts) ts c (omega arith) e
-
-pub curly_within : (ts : Tokens) → length (before_curly ts).1 ≤ length ts
-curly_within [] = omega arith
-curly_within (Token.Sign m.OpenCurly at ∷ rest) = omega arith
-curly_within (x ∷ rest) = let h = curly_within rest in omega (arith, h)
-
-pub typed_within : (d : ℕ) (ts rest : Tokens) (x : JTypedParam) → typed_read d ts ≡ Some (x, rest) → length rest ≤ length ts
-typed_within d ts rest x e =
-    let l = ap length (typed_sound d ts (x, rest) e).0 in
-    let k = length-append (typed_tokens x) rest in
-    omega (arith, l, k)
-
-pub curly_shorter : (ts before behind : List Piece) → (shown before, shown behind) ≡ before_curly (shown ts) → length behind ≤ length ts
-curly_shorter ts before behind e =
-    let same : shown behind ≡ (before_curly (shown ts)).1 = ap (λ (x : Tokens × Tokens). x.1) e in
-    let l = ap length same in
-    let h = curly_within (shown ts) in
-    let k = length_shown ts in
-    let j = length_shown behind in
-    omega (arith, l, h, k, j)
-
-pub ruleset types = (typed_within, length_shown)

@@ -1,5 +1,5 @@
-pub mod Asks
 pub mod Heads
 pub mod Firsts
 pub mod Members
 pub mod Cases
+pub mod Tops

@@ -1,29 +1,22 @@
-//! Heads with their bodies.
+//! Heads of any kind with their bodies.
 
 ghost use Rattle.std.specs.Prelude.{◌≡◌, ◌≤◌, ◌<◌, ◌+◌, ◌-◌, ◌^◌, suc, length};
-ghost use Rattle.java_tree.specs.Trees as t;
-ghost use Rattle.java_expr_grammar.specs.Reading as e;
-ghost use Rattle.java_statement_grammar.specs.Reading as h;
-ghost use Rattle.java_unit_grammar.specs.Levels as l;
-ghost use Rattle.java_unit_grammar.specs.Standing as s;
 ghost use Rattle.java_unit_grammar.specs.Cutting as c;
 ghost use Rattle.java_unit_grammar.specs.Reading as r;
 ghost use Rattle.java_token_cursor.specs.Shown.{shown};
 ghost use Rattle.java_type_parser.specs.Gives.{Gives, Always};
 ghost use Rattle.java_body_cuts.specs.Cuts.{all_shown, cut_seen, stop_seen};
-ghost use Rattle.java_body_parser.specs.Asks.{Nests, Shorter, found, headed_found, rounded_found, same};
-ghost use Rattle.java_body_parser.specs.Heads.{AllSmall, CutFits, TextParts, condition_read, next_level, parted_levels};
+ghost use Rattle.java_block_parser.specs.Asks.{Nests, Shorter, found, headed_found, rounded_found, same};
+ghost use Rattle.java_body_parser.specs.Heads.{AllSmall, CutFits, TextParts, cut_bodied, cut_bodies, cut_head, next_level, parted_levels, rounded_end};
 
-use crate::asks::{Answer, Ask, Headed, Part, Rounded};
-use crate::grammar::Grammar;
-use crate::tokens::{close, open_round};
+use crate::kinds::Kind;
+use crate::rules::Rules;
 use j2k_base::NoMemory;
-use java_body_cuts::{CutFound, Stop, cut, is_end, spans};
-use java_exprs::read;
-use java_statement_grammar::{JForHead, JLock, JSimple};
-use java_statement_parser::{for_head, lock, simple};
+use java_block_parser::{Answer, Ask, Headed, Part, Rounded, close, open_round};
+use java_body_cuts::{CutFound, Stop, cut, spans};
 use java_token_cursor::{Piece, Pieces};
-use java_tree::JExpr;
+use java_tree::Position;
+use java_type_parser::let_go;
 use java_unit_grammar::JBody;
 use sqlite_items::{Boxed, Items};
 use std::alloc::Global;
@@ -50,7 +43,7 @@ fn parted<'a>(
 }
 
 /// The first of the texts, and those behind it.
-fn text_first<'a, 'b>(texts: &'b [Pieces<'a>]) -> Option<(Pieces<'a>, &'b [Pieces<'a>])>
+pub fn text_first<'a, 'b>(texts: &'b [Pieces<'a>]) -> Option<(Pieces<'a>, &'b [Pieces<'a>])>
     ensures { TextParts texts.now result }
 {
     let (text, behind) = texts.split_first()?;
@@ -76,26 +69,27 @@ pub fn cut_off<'a>(
     cut(alloc, stop, pieces)
 }
 
-/// The expression that the pieces are, of any level.
-#[tactic(auto, using(java_statement_parser::proofs::LawsToCite::ends))]
-fn condition_of<'a>(
-    alloc: Global,
+/// A head in parentheses, where a `)` comes first of the pieces.
+fn closed<'a, H: Drop>(
+    opens: Position,
+    headed: Headed<H>,
     pieces: Pieces<'a>,
-    depth: usize,
-) -> Result<Option<Boxed<JExpr>>, NoMemory>
-    ensures { Gives same Always (condition_read depth (shown pieces.now)) result }
+) -> Answer<'a, Rounded<H>>
+    ensures { Gives rounded_found (Shorter pieces.now) (rounded_end opens headed.0 headed.1 (shown pieces.now)) result }
 {
-    let Some((found, rest)) = read(alloc, pieces, depth, 1)? else {
-        return Ok(None);
-    };
-    if is_end(rest) {
-        Ok(Some(found.tree))
-    } else {
-        Ok(None)
+    match close(pieces) {
+        Some((closes, rest)) => {
+            let (head, bodies) = headed;
+            Ok(Some(((opens, head, bodies, closes), rest)))
+        }
+        None => {
+            let_go(headed);
+            Ok(None)
+        }
     }
 }
 
-impl<F: for<'a, 'b> Fn(Global, Pieces<'a>, Ask<'b>, usize, usize) -> Answer<'a, Part>> Grammar<F> {
+impl<F: for<'a, 'b> Fn(Global, Pieces<'a>, Ask<'b>, usize, usize) -> Answer<'a, Part>> Rules<F> {
     /// The bodies with those texts, each at its level and of its kind.
     pub fn bodies<'a, 'b>(
         &self,
@@ -104,17 +98,17 @@ impl<F: for<'a, 'b> Fn(Global, Pieces<'a>, Ask<'b>, usize, usize) -> Answer<'a, 
         mut texts: &'b [Pieces<'a>],
         depth: usize,
     ) -> Result<Option<Items<JBody>>, NoMemory>
-        requires nests { Nests self.now.depth self.now.steps (F.pre self.now.read) (F.post self.now.read) }
+        requires nests { Nests self.now.parts.depth self.now.parts.steps (F.pre self.now.parts.read) (F.post self.now.parts.read) }
         requires small { AllSmall texts.now }
-        requires room { depth + self.now.steps ≤ 998 }
-        ensures { Gives same Always (r.bodies_by (r.readers self.now.steps).body depth levels.entry.now kinds.entry.now (all_shown texts.entry.now)) result }
+        requires room { depth + self.now.parts.steps ≤ 998 }
+        ensures { Gives same Always (r.bodies_by (r.readers self.now.parts.steps).body depth levels.entry.now kinds.entry.now (all_shown texts.entry.now)) result }
     {
-        let mut found = Items::new(self.alloc);
+        let mut found = Items::new(self.parts.alloc);
         while let Some((text, behind)) = text_first(texts) {
             let Some(((level, is_block), (more_levels, more_kinds))) = parted(levels, kinds) else {
                 return Ok(None);
             };
-            let Some(body) = self.body(text, is_block, room(depth, level))? else {
+            let Some(body) = self.parts.body(text, is_block, room(depth, level))? else {
                 return Ok(None);
             };
             found.push(body.into_inner())?;
@@ -125,184 +119,119 @@ impl<F: for<'a, 'b> Fn(Global, Pieces<'a>, Ask<'b>, usize, usize) -> Answer<'a, 
         Ok(Some(found))
     }
 
-    /// The bodies of a head with that text.
-    pub fn bodies_of<'a, 'b>(
+    /// The bodies of a head that was cut off, at those levels.
+    pub fn bodies_of<'a>(
         &self,
-        text: Pieces<'b>,
-        levels: &'b [usize],
-        texts: &'b [Pieces<'a>],
+        cut: &CutFound<'a>,
+        levels: &[usize],
         depth: usize,
     ) -> Result<Option<Items<JBody>>, NoMemory>
-        requires nests { Nests self.now.depth self.now.steps (F.pre self.now.read) (F.post self.now.read) }
-        requires small { AllSmall texts.now }
-        requires room { depth + self.now.steps ≤ 998 }
-        ensures { Gives same Always (r.bodies_by (r.readers self.now.steps).body depth levels.now (s.spans (shown text.now)) (all_shown texts.now)) result }
+        requires nests { Nests self.now.parts.depth self.now.parts.steps (F.pre self.now.parts.read) (F.post self.now.parts.read) }
+        requires small { AllSmall cut.now.bodies.items }
+        requires room { depth + self.now.parts.steps ≤ 998 }
+        ensures { Gives same Always (cut_bodies (r.readers self.now.parts.steps) depth levels.now (cut_seen cut.now)) result }
     {
-        let kinds = spans(self.alloc, text)?;
-        self.bodies(levels, kinds.as_slice(), texts, depth)
+        let kinds = spans(self.parts.alloc, cut.text.as_slice())?;
+        self.bodies(levels, kinds.as_slice(), cut.bodies.as_slice(), depth)
     }
 
+    fn head_bodies<'a, K: Kind>(
+        &self,
+        kind: K,
+        cut: &CutFound<'a>,
+        head: &K::Head,
+        depth: usize,
+    ) -> Result<Option<Items<JBody>>, NoMemory>
+        requires nests { Nests self.now.parts.depth self.now.parts.steps (F.pre self.now.parts.read) (F.post self.now.parts.read) }
+        requires small { AllSmall cut.now.bodies.items }
+        requires room { depth + self.now.parts.steps ≤ 998 }
+        ensures { Gives same Always (cut_bodies (r.readers self.now.parts.steps) depth (K.levels kind head.now) (cut_seen cut.now)) result }
+    {
+        let Some(_) = text_first(cut.bodies.as_slice()) else {
+            return Ok(Some(Items::new(self.parts.alloc)));
+        };
+        let levels = kind.depths(self.parts.alloc, head)?;
+        self.bodies_of(cut, levels.as_slice(), depth)
+    }
+
+    fn head_bodied<'a, K: Kind>(
+        &self,
+        kind: K,
+        cut: &CutFound<'a>,
+        head: Boxed<K::Head>,
+        depth: usize,
+    ) -> Answer<'a, Headed<K::Head>>
+        requires nests { Nests self.now.parts.depth self.now.parts.steps (F.pre self.now.parts.read) (F.post self.now.parts.read) }
+        requires small { AllSmall cut.now.bodies.items }
+        requires room { depth + self.now.parts.steps ≤ 998 }
+        ensures { Gives headed_found (Shorter cut.now.rest.now) (cut_bodied (r.readers self.now.parts.steps) depth (K.levels kind) head (cut_seen cut.now)) result }
+    {
+        match self.head_bodies(kind, cut, head.get(), depth) {
+            Ok(Some(bodies)) => Ok(Some(((head, bodies), cut.rest))),
+            Ok(None) => {
+                let_go(head);
+                Ok(None)
+            }
+            Err(error) => {
+                let_go(head);
+                Err(error)
+            }
+        }
+    }
+
+    fn head_of<'a, K: Kind>(
+        &self,
+        kind: K,
+        cut: &CutFound<'a>,
+        depth: usize,
+    ) -> Answer<'a, Headed<K::Head>>
+        requires nests { Nests self.now.parts.depth self.now.parts.steps (F.pre self.now.parts.read) (F.post self.now.parts.read) }
+        requires small { AllSmall cut.now.bodies.items }
+        requires room { depth + self.now.parts.steps ≤ 998 }
+        ensures { Gives headed_found (Shorter cut.now.rest.now) (cut_head (r.readers self.now.parts.steps) depth (K.reading kind) (K.levels kind) (cut_seen cut.now)) result }
+    {
+        match kind.read(self.parts.alloc, cut.text.as_slice()) {
+            Ok(Some(head)) => self.head_bodied(kind, cut, head, depth),
+            Ok(None) => Ok(None),
+            Err(error) => Err(error),
+        }
+    }
+
+    /// A head of the kind with its bodies, in what may be `depth + 1` deep.
     #[tactic(auto, unfolding(java_unit_grammar::specs::Reading::head_read))]
-    pub fn simple_head<'a>(&self, pieces: Pieces<'a>) -> Answer<'a, Headed<JSimple>>
-        requires nests { Nests self.now.depth self.now.steps (F.pre self.now.read) (F.post self.now.read) }
+    pub fn head<'a, K: Kind>(
+        &self,
+        kind: K,
+        stop: Stop,
+        pieces: Pieces<'a>,
+        depth: usize,
+    ) -> Answer<'a, Headed<K::Head>>
+        requires nests { Nests self.now.parts.depth self.now.parts.steps (F.pre self.now.parts.read) (F.post self.now.parts.read) }
         requires size { length pieces.now < 2 ^ 32 }
-        ensures { Gives headed_found (Shorter pieces.now) (r.head_read (r.readers self.now.steps).body self.now.depth c.Stop.Semicolon (h.simple_read self.now.depth) l.simple_levels (shown pieces.now)) result }
+        requires room { depth + self.now.parts.steps ≤ 998 }
+        ensures { Gives headed_found (Shorter pieces.now) (r.head_read (r.readers self.now.parts.steps).body depth (stop_seen stop) (K.reading kind) (K.levels kind) (shown pieces.now)) result }
     {
-        let Some(cut) = cut_off(self.alloc, Stop::Semicolon, pieces)? else {
-            return Ok(None);
-        };
-        let Some(head) = simple(self.alloc, cut.text.as_slice(), self.depth)? else {
-            return Ok(None);
-        };
-        let head = Boxed::new(self.alloc, head)?;
-        let levels = java_body_depths::simple(self.alloc, head.get())?;
-        let texts = cut.bodies.as_slice();
-        let Some(bodies) = self.bodies_of(
-            cut.text.as_slice(),
-            levels.as_slice(),
-            texts,
-            self.depth,
-        )?
-        else {
-            return Ok(None);
-        };
-        Ok(Some(((head, bodies), cut.rest)))
+        match cut_off(self.parts.alloc, stop, pieces) {
+            Ok(Some(cut)) => self.head_of(kind, &cut, depth),
+            Ok(None) => Ok(None),
+            Err(error) => Err(error),
+        }
     }
 
-    #[tactic(auto, unfolding(java_unit_grammar::specs::Reading::head_read))]
-    fn for_head<'a>(&self, pieces: Pieces<'a>) -> Answer<'a, Headed<JForHead>>
-        requires nests { Nests self.now.depth self.now.steps (F.pre self.now.read) (F.post self.now.read) }
-        requires size { length pieces.now < 2 ^ 32 }
-        ensures { Gives headed_found (Shorter pieces.now) (r.head_read (r.readers self.now.steps).body self.now.depth c.Stop.Close (h.for_read self.now.depth) l.for_levels (shown pieces.now)) result }
-    {
-        let Some(cut) = cut_off(self.alloc, Stop::Close, pieces)? else {
-            return Ok(None);
-        };
-        let Some(head) = for_head(self.alloc, cut.text.as_slice(), self.depth)? else {
-            return Ok(None);
-        };
-        let head = Boxed::new(self.alloc, head)?;
-        let levels = java_body_depths::for_head(self.alloc, head.get())?;
-        let texts = cut.bodies.as_slice();
-        let Some(bodies) = self.bodies_of(
-            cut.text.as_slice(),
-            levels.as_slice(),
-            texts,
-            self.depth,
-        )?
-        else {
-            return Ok(None);
-        };
-        Ok(Some(((head, bodies), cut.rest)))
-    }
-
-    #[tactic(auto, unfolding(java_unit_grammar::specs::Reading::head_read))]
-    fn lock_head<'a>(&self, pieces: Pieces<'a>) -> Answer<'a, Headed<JLock>>
-        requires nests { Nests self.now.depth self.now.steps (F.pre self.now.read) (F.post self.now.read) }
-        requires size { length pieces.now < 2 ^ 32 }
-        ensures { Gives headed_found (Shorter pieces.now) (r.head_read (r.readers self.now.steps).body self.now.depth c.Stop.Close (h.lock_read self.now.depth) l.lock_levels (shown pieces.now)) result }
-    {
-        let Some(cut) = cut_off(self.alloc, Stop::Close, pieces)? else {
-            return Ok(None);
-        };
-        let Some(head) = lock(self.alloc, cut.text.as_slice(), self.depth)? else {
-            return Ok(None);
-        };
-        let head = Boxed::new(self.alloc, head)?;
-        let levels = java_body_depths::lock(self.alloc, head.get())?;
-        let texts = cut.bodies.as_slice();
-        let Some(bodies) = self.bodies_of(
-            cut.text.as_slice(),
-            levels.as_slice(),
-            texts,
-            self.depth,
-        )?
-        else {
-            return Ok(None);
-        };
-        Ok(Some(((head, bodies), cut.rest)))
-    }
-
-    #[tactic(auto, unfolding(java_unit_grammar::specs::Reading::head_read))]
-    fn condition_head<'a>(&self, pieces: Pieces<'a>) -> Answer<'a, Headed<JExpr>>
-        requires nests { Nests self.now.depth self.now.steps (F.pre self.now.read) (F.post self.now.read) }
-        requires size { length pieces.now < 2 ^ 32 }
-        ensures { Gives headed_found (Shorter pieces.now) (r.head_read (r.readers self.now.steps).body self.now.depth c.Stop.Close (condition_read self.now.depth) r.condition_levels (shown pieces.now)) result }
-    {
-        let Some(cut) = cut_off(self.alloc, Stop::Close, pieces)? else {
-            return Ok(None);
-        };
-        let Some(head) = condition_of(self.alloc, cut.text.as_slice(), self.depth)? else {
-            return Ok(None);
-        };
-        let levels = java_body_depths::condition(self.alloc, head.get())?;
-        let texts = cut.bodies.as_slice();
-        let Some(bodies) = self.bodies_of(
-            cut.text.as_slice(),
-            levels.as_slice(),
-            texts,
-            self.depth,
-        )?
-        else {
-            return Ok(None);
-        };
-        Ok(Some(((head, bodies), cut.rest)))
-    }
-
-    /// A condition in parentheses.
+    /// A head of the kind in parentheses.
     #[tactic(auto, unfolding(java_unit_grammar::specs::Reading::rounded))]
-    pub fn condition<'a>(&self, pieces: Pieces<'a>) -> Answer<'a, Rounded<JExpr>>
-        requires nests { Nests self.now.depth self.now.steps (F.pre self.now.read) (F.post self.now.read) }
+    pub fn rounded<'a, K: Kind>(&self, kind: K, pieces: Pieces<'a>) -> Answer<'a, Rounded<K::Head>>
+        requires nests { Nests self.now.parts.depth self.now.parts.steps (F.pre self.now.parts.read) (F.post self.now.parts.read) }
         requires size { length pieces.now < 2 ^ 32 }
-        ensures { Gives rounded_found (Shorter pieces.now) (r.condition (r.readers self.now.steps) self.now.depth (shown pieces.now)) result }
+        ensures { Gives rounded_found (Shorter pieces.now) (r.rounded (r.readers self.now.parts.steps).body self.now.parts.depth (K.reading kind) (K.levels kind) (shown pieces.now)) result }
     {
         let Some((opens, rest)) = open_round(pieces) else {
             return Ok(None);
         };
-        let Some(((head, bodies), rest)) = self.condition_head(rest)? else {
-            return Ok(None);
-        };
-        let Some((closes, rest)) = close(rest) else {
-            return Ok(None);
-        };
-        Ok(Some(((opens, head, bodies, closes), rest)))
-    }
-
-    /// What stands in the parentheses of a `for`, in them.
-    #[tactic(auto, unfolding(java_unit_grammar::specs::Reading::rounded))]
-    pub fn for_rounded<'a>(&self, pieces: Pieces<'a>) -> Answer<'a, Rounded<JForHead>>
-        requires nests { Nests self.now.depth self.now.steps (F.pre self.now.read) (F.post self.now.read) }
-        requires size { length pieces.now < 2 ^ 32 }
-        ensures { Gives rounded_found (Shorter pieces.now) (r.rounded (r.readers self.now.steps).body self.now.depth (h.for_read self.now.depth) l.for_levels (shown pieces.now)) result }
-    {
-        let Some((opens, rest)) = open_round(pieces) else {
-            return Ok(None);
-        };
-        let Some(((head, bodies), rest)) = self.for_head(rest)? else {
-            return Ok(None);
-        };
-        let Some((closes, rest)) = close(rest) else {
-            return Ok(None);
-        };
-        Ok(Some(((opens, head, bodies, closes), rest)))
-    }
-
-    /// A lock in parentheses.
-    #[tactic(auto, unfolding(java_unit_grammar::specs::Reading::rounded))]
-    pub fn lock_rounded<'a>(&self, pieces: Pieces<'a>) -> Answer<'a, Rounded<JLock>>
-        requires nests { Nests self.now.depth self.now.steps (F.pre self.now.read) (F.post self.now.read) }
-        requires size { length pieces.now < 2 ^ 32 }
-        ensures { Gives rounded_found (Shorter pieces.now) (r.rounded (r.readers self.now.steps).body self.now.depth (h.lock_read self.now.depth) l.lock_levels (shown pieces.now)) result }
-    {
-        let Some((opens, rest)) = open_round(pieces) else {
-            return Ok(None);
-        };
-        let Some(((head, bodies), rest)) = self.lock_head(rest)? else {
-            return Ok(None);
-        };
-        let Some((closes, rest)) = close(rest) else {
-            return Ok(None);
-        };
-        Ok(Some(((opens, head, bodies, closes), rest)))
+        match self.head(kind, Stop::Close, rest, self.parts.depth) {
+            Ok(Some((headed, rest))) => closed(opens, headed, rest),
+            Ok(None) => Ok(None),
+            Err(error) => Err(error),
+        }
     }
 }

@@ -1,21 +1,17 @@
 //! Statements, bodies, labels of a switch and members from the tokens of a file, each token a piece.
 #![tactic(auto)]
 
-mod asks;
-mod blocks;
 mod bodies;
-mod grammar;
 mod heads;
+mod kinds;
 mod labels;
-mod lists;
 mod members;
+mod rules;
 mod statements;
-mod switches;
-mod tokens;
 mod tops;
-mod tries;
 mod types;
 
-pub use asks::Answer;
-pub use tops::{constants_list, top_bodied, top_declared};
-pub use types::ConstantsFound;
+pub use java_block_parser::{Answer, ConstantsFound};
+pub use tops::{
+    constants_list, past_bodied, past_constants, past_declared, top_bodied, top_declared,
+};

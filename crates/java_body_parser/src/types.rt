@@ -1,45 +1,31 @@
-//! Types that are members.
+//! The constants of an enum, and what types consist of.
 
 ghost use Rattle.std.specs.Prelude.{◌≡◌, ◌≤◌, ◌<◌, ◌+◌, ◌^◌, length, IfOk};
 ghost use Rattle.java_unit_grammar.specs.Standing as s;
 ghost use Rattle.java_unit_grammar.specs.Reading as r;
 ghost use Rattle.java_token_cursor.specs.Shown.{shown};
-ghost use Rattle.java_type_parser.specs.Gives.{Gives};
-ghost use Rattle.java_modifier_rules.specs.Fits.{owner_seen};
-ghost use Rattle.java_body_parser.specs.Asks.{Nests, Shorter, constants_found, found};
-ghost use Rattle.java_body_parser.specs.Members.{IsEnd, inside_found};
+ghost use Rattle.java_type_parser.specs.Gives.{Always, Gives};
+ghost use Rattle.java_block_parser.specs.Asks.{Nests, Shorter, constants_found, same};
+ghost use Rattle.java_body_parser.specs.Members.{IsEnd, constants_bodied, constants_in, constants_of};
+ghost use Rattle.java_body_parser.specs.Heads.{AllSmall};
+ghost use Rattle.java_body_cuts.specs.Cuts.{all_shown, cut_seen};
+ghost use Rattle.java_unit_grammar.specs.Levels.{constants_levels};
 
-use crate::asks::{Answer, Ask, Part, Until};
-use crate::grammar::Grammar;
-use crate::heads::cut_off;
+use crate::heads::{cut_off, text_first};
 use crate::labels::with_first;
-use crate::members::at_curly;
-use crate::tokens::{close_curly, open_curly, semicolon};
+use crate::rules::Rules;
 use j2k_base::NoMemory;
+use java_block_parser::{Answer, Ask, ConstantsFound, Part, TypeReader, Until, semicolon};
 use java_body_cuts::{CutFound, Stop, spans};
-use java_member_grammar::{JConstants, JHome, JTypeHead};
+use java_member_grammar::{JConstants, JTypeHead};
 use java_member_parser::{constants, type_head};
-use java_modifier_rules::{Owner, owner_of, type_fits};
+use java_modifier_rules::Owner;
 use java_token_cursor::{Piece, Pieces};
-use java_tree::Position;
+use java_tree::MAX_DEPTH;
+use java_type_parser::let_go;
 use java_unit_grammar::{JBody, JMember};
 use sqlite_items::{Boxed, Items};
 use std::alloc::Global;
-
-/// The constants of an enum, and the bodies of their arguments.
-#[derive(Drop)]
-pub struct ConstantsFound {
-    pub head: Boxed<JConstants>,
-    pub bodies: Items<JBody>,
-}
-
-/// What stands between the braces of a type.
-#[derive(Drop)]
-pub struct Inside {
-    pub constants: Option<JConstants>,
-    pub bodies: Items<JBody>,
-    pub members: Items<JMember>,
-}
 
 /// The text with the `;` that comes first, where one does, and what follows.
 #[tactic(auto, using(crate::proofs::Texts::ends))]
@@ -56,136 +42,139 @@ fn with_end<'a>(
     Ok((text, pieces))
 }
 
-impl<F: for<'a, 'b> Fn(Global, Pieces<'a>, Ask<'b>, usize, usize) -> Answer<'a, Part>> Grammar<F> {
+impl<F: for<'a, 'b> Fn(Global, Pieces<'a>, Ask<'b>, usize, usize) -> Answer<'a, Part>> Rules<F> {
     /// The constants of an enum as far as what follows them (JLS 8.9.1).
     #[tactic(auto, unfolding(java_unit_grammar::specs::Reading::constants_list))]
     pub fn constants_list<'a>(&self, pieces: Pieces<'a>) -> Answer<'a, ConstantsFound>
-        requires nests { Nests self.now.depth self.now.steps (F.pre self.now.read) (F.post self.now.read) }
+        requires nests { Nests self.now.parts.depth self.now.parts.steps (F.pre self.now.parts.read) (F.post self.now.parts.read) }
         requires size { length pieces.now < 2 ^ 32 }
-        ensures { Gives constants_found (Shorter pieces.now) (r.constants_list (r.readers self.now.steps) (shown pieces.now)) result }
+        ensures { Gives constants_found (Shorter pieces.now) (r.constants_list (r.readers self.now.parts.steps) (shown pieces.now)) result }
     {
-        let Some(cut) = cut_off(self.alloc, Stop::Constants, pieces)? else {
-            return Ok(None);
-        };
+        match cut_off(self.parts.alloc, Stop::Constants, pieces) {
+            Ok(Some(cut)) => self.constants_of(cut),
+            Ok(None) => Ok(None),
+            Err(error) => Err(error),
+        }
+    }
+
+    fn constants_of<'a>(&self, cut: CutFound<'a>) -> Answer<'a, ConstantsFound>
+        requires nests { Nests self.now.parts.depth self.now.parts.steps (F.pre self.now.parts.read) (F.post self.now.parts.read) }
+        requires small { AllSmall cut.bodies.items }
+        ensures { Gives constants_found (Shorter cut.entry.rest.now) (constants_of (r.readers self.now.parts.steps) (cut_seen cut.entry)) result }
+    {
+        match spans(self.parts.alloc, cut.text.as_slice()) {
+            Ok(kinds) => self.constants_by(cut, kinds.as_slice()),
+            Err(error) => {
+                let_go(cut);
+                Err(error)
+            }
+        }
+    }
+
+    fn constants_by<'a>(&self, cut: CutFound<'a>, kinds: &[bool]) -> Answer<'a, ConstantsFound>
+        requires nests { Nests self.now.parts.depth self.now.parts.steps (F.pre self.now.parts.read) (F.post self.now.parts.read) }
+        requires small { AllSmall cut.bodies.items }
+        requires same { kinds.now ≡ s.spans (shown cut.text.items) }
+        ensures { Gives constants_found (Shorter cut.entry.rest.now) (constants_of (r.readers self.now.parts.steps) (cut_seen cut.entry)) result }
+    {
         let CutFound { text, bodies, rest } = cut;
-        let kinds = spans(self.alloc, text.as_slice())?;
-        let (text, behind) = with_end(text, rest)?;
-        let Some(head) = constants(self.alloc, text.as_slice(), 200)? else {
-            return Ok(None);
-        };
-        let head = Boxed::new(self.alloc, head)?;
-        let levels = java_body_depths::constants(self.alloc, head.get())?;
-        let texts = bodies.as_slice();
-        let Some(bodies) = self.bodies(levels.as_slice(), kinds.as_slice(), texts, 199)? else {
-            return Ok(None);
-        };
-        Ok(Some((ConstantsFound { head, bodies }, behind)))
+        match with_end(text, rest) {
+            Ok((text, behind)) => {
+                self.constants_in(text.as_slice(), kinds, bodies.as_slice(), behind)
+            }
+            Err(error) => {
+                let_go(bodies);
+                Err(error)
+            }
+        }
     }
 
-    /// The members behind the `;` of constants, where it stands.
-    fn members_behind<'a, 'b>(
+    /// The constants with that text, and what follows.
+    fn constants_in<'a, 'b>(
         &self,
-        end: Option<Position>,
-        pieces: Pieces<'a>,
-        owner: Owner<'b>,
-    ) -> Answer<'a, Items<JMember>>
-        requires nests { Nests self.now.depth self.now.steps (F.pre self.now.read) (F.post self.now.read) }
-        requires size { length pieces.now < 2 ^ 32 }
-        ensures { Gives found (Shorter pieces.now) (r.members_behind end (r.until r.begins_close ((r.readers self.now.steps).member self.now.depth (owner_seen owner.entry))) (shown pieces.now)) result }
+        text: Pieces<'b>,
+        kinds: &[bool],
+        texts: &[Pieces<'a>],
+        behind: Pieces<'a>,
+    ) -> Answer<'a, ConstantsFound>
+        requires nests { Nests self.now.parts.depth self.now.parts.steps (F.pre self.now.parts.read) (F.post self.now.parts.read) }
+        requires small { AllSmall texts.now }
+        ensures { Gives constants_found (Shorter behind.now) (constants_in (r.readers self.now.parts.steps) kinds.now (all_shown texts.now) (shown text.now) (shown behind.now)) result }
     {
-        match end {
-            None => Ok(Some((Items::new(self.alloc), pieces))),
-            Some(_) => self.members(pieces, Until::Close, owner, self.depth),
+        match constants(self.parts.alloc, text, MAX_DEPTH) {
+            Ok(Some(head)) => {
+                self.constants_bodied(Boxed::new(self.parts.alloc, head)?, kinds, texts, behind)
+            }
+            Ok(None) => Ok(None),
+            Err(error) => Err(error),
         }
     }
 
-    /// The constants of an enum, and the members behind them (JLS 8.9).
-    #[tactic(auto, unfolding(java_unit_grammar::specs::Reading::enum_inside))]
-    fn enum_inside<'a, 'b>(&self, pieces: Pieces<'a>, owner: Owner<'b>) -> Answer<'a, Inside>
-        requires nests { Nests self.now.depth self.now.steps (F.pre self.now.read) (F.post self.now.read) }
-        requires size { length pieces.now < 2 ^ 32 }
-        ensures { Gives inside_found (Shorter pieces.now) (r.enum_inside (r.readers self.now.steps) (r.until r.begins_close ((r.readers self.now.steps).member self.now.depth (owner_seen owner.entry))) (shown pieces.now)) result }
+    fn constants_bodied<'a>(
+        &self,
+        head: Boxed<JConstants>,
+        kinds: &[bool],
+        texts: &[Pieces<'a>],
+        behind: Pieces<'a>,
+    ) -> Answer<'a, ConstantsFound>
+        requires nests { Nests self.now.parts.depth self.now.parts.steps (F.pre self.now.parts.read) (F.post self.now.parts.read) }
+        requires small { AllSmall texts.now }
+        ensures { Gives constants_found (Shorter behind.now) (constants_bodied (r.readers self.now.parts.steps) head kinds.now (all_shown texts.now) (shown behind.now)) result }
     {
-        let Some((list, rest)) = self.constants_list(pieces)? else {
-            return Ok(None);
-        };
-        let end = list.head.get().end;
-        let Some((members, rest)) = self.members_behind(end, rest, owner)? else {
-            return Ok(None);
-        };
-        let ConstantsFound { head, bodies } = list;
-        let constants = Some(head.into_inner());
-        let inside = Inside {
-            constants,
-            bodies,
-            members,
-        };
-        Ok(Some((inside, rest)))
-    }
-
-    /// The members of a class or an interface (JLS 8.1.6, 9.1.4).
-    #[tactic(auto, unfolding(java_unit_grammar::specs::Reading::plain_inside))]
-    fn plain_inside<'a, 'b>(&self, pieces: Pieces<'a>, owner: Owner<'b>) -> Answer<'a, Inside>
-        requires nests { Nests self.now.depth self.now.steps (F.pre self.now.read) (F.post self.now.read) }
-        requires size { length pieces.now < 2 ^ 32 }
-        ensures { Gives inside_found (Shorter pieces.now) (r.plain_inside (r.readers self.now.steps) (r.until r.begins_close ((r.readers self.now.steps).member self.now.depth (owner_seen owner.entry))) (shown pieces.now)) result }
-    {
-        let Some((members, rest)) = self.members(pieces, Until::Close, owner, self.depth)? else {
-            return Ok(None);
-        };
-        let inside = Inside {
-            constants: None,
-            bodies: Items::new(self.alloc),
-            members,
-        };
-        Ok(Some((inside, rest)))
-    }
-
-    /// What stands between the braces behind the head.
-    fn inside<'a>(&self, head: &JTypeHead, pieces: Pieces<'a>) -> Answer<'a, Inside>
-        requires nests { Nests self.now.depth self.now.steps (F.pre self.now.read) (F.post self.now.read) }
-        requires size { length pieces.now < 2 ^ 32 }
-        ensures { Gives inside_found (Shorter pieces.now) (r.inside (r.readers self.now.steps) head.now (r.until r.begins_close ((r.readers self.now.steps).member self.now.depth (s.owner_of head.now))) (shown pieces.now)) result }
-    {
-        let owner = owner_of(head);
-        match head {
-            JTypeHead::Enum(..) => self.enum_inside(pieces, owner),
-            _ => self.plain_inside(pieces, owner),
+        match self.constants_bodies(head.get(), kinds, texts) {
+            Ok(Some(bodies)) => Ok(Some((ConstantsFound { head, bodies }, behind))),
+            Ok(None) => {
+                let_go(head);
+                Ok(None)
+            }
+            Err(error) => {
+                let_go(head);
+                Err(error)
+            }
         }
     }
 
-    /// A type that is a member of one in an expression.
-    #[tactic(auto, unfolding(java_unit_grammar::specs::Reading::typed))]
-    pub fn typed<'a>(&self, pieces: Pieces<'a>, place: JHome) -> Answer<'a, Boxed<JMember>>
-        requires nests { Nests self.now.depth self.now.steps (F.pre self.now.read) (F.post self.now.read) }
-        requires size { length pieces.now < 2 ^ 32 }
-        ensures { Gives found (Shorter pieces.now) (r.typed (r.readers self.now.steps) self.now.depth ((r.readers self.now.steps).member self.now.depth) place (shown pieces.now)) result }
+    fn constants_bodies<'a>(
+        &self,
+        head: &JConstants,
+        kinds: &[bool],
+        texts: &[Pieces<'a>],
+    ) -> Result<Option<Items<JBody>>, NoMemory>
+        requires nests { Nests self.now.parts.depth self.now.parts.steps (F.pre self.now.parts.read) (F.post self.now.parts.read) }
+        requires small { AllSmall texts.now }
+        ensures { Gives same Always (r.bodies_by (r.readers self.now.parts.steps).body 199 (constants_levels head.now) kinds.now (all_shown texts.now)) result }
     {
-        let (text, behind) = at_curly(pieces);
-        let Some(head) = type_head(self.alloc, text, self.depth)? else {
-            return Ok(None);
+        let Some(_) = text_first(texts) else {
+            return Ok(Some(Items::new(self.parts.alloc)));
         };
-        let head = Boxed::new(self.alloc, head)?;
-        let Some((left, rest)) = open_curly(behind) else {
-            return Ok(None);
-        };
-        let Some((inside, rest)) = self.inside(head.get(), rest)? else {
-            return Ok(None);
-        };
-        let Some((right, rest)) = close_curly(rest) else {
-            return Ok(None);
-        };
-        if !type_fits(place, head.get()) {
-            return Ok(None);
+        let levels = java_body_depths::constants(self.parts.alloc, head)?;
+        self.bodies(levels.as_slice(), kinds, texts, 199)
+    }
+}
+
+impl<F: for<'a, 'b> Fn(Global, Pieces<'a>, Ask<'b>, usize, usize) -> Answer<'a, Part>> TypeReader
+    for Rules<F> {
+    ghost ready = { λ x. Nests x.parts.depth x.parts.steps (F.pre x.parts.read) (F.post x.parts.read) };
+
+    ghost depth = { λ x. x.parts.depth };
+
+    ghost nested = { λ x. (r.readers x.parts.steps).member x.parts.depth };
+
+    ghost parts = { λ x. r.readers x.parts.steps };
+
+    fn head<'a>(&self, pieces: Pieces<'a>) -> Result<Option<Boxed<JTypeHead>>, NoMemory> {
+        match type_head(self.parts.alloc, pieces, self.parts.depth)? {
+            Some(head) => Ok(Some(Boxed::new(self.parts.alloc, head)?)),
+            None => Ok(None),
         }
-        let Inside {
-            constants,
-            bodies,
-            members,
-        } = inside;
-        let head = head.into_inner();
-        let tree = JMember::Type(head, left, constants, bodies, members, right);
-        let tree = Boxed::new(self.alloc, tree)?;
-        Ok(Some((tree, rest)))
+    }
+
+    fn constants<'a>(&self, pieces: Pieces<'a>) -> Answer<'a, ConstantsFound> {
+        self.constants_list(pieces)
+    }
+
+    fn members<'a, 'b>(&self, pieces: Pieces<'a>, owner: Owner<'b>) -> Answer<'a, Items<JMember>> {
+        self.parts
+            .members(pieces, Until::Close, owner, self.parts.depth)
     }
 }

@@ -6,7 +6,7 @@ ghost use Rattle.java_token_cursor.specs.Shown.{shown};
 ghost use Rattle.java_type_parser.specs.Gives.{Gives, Always};
 ghost use Rattle.java_modifier_rules.specs.Fits.{owner_seen};
 ghost use Rattle.java_fault_grammar.specs.Forms as f;
-ghost use Rattle.java_fault_finder.specs.Walks.{does, fitting, lone_curly, opened_of, is_enum, opened_seen, passed_at, room, same, state_seen};
+ghost use Rattle.java_fault_finder.specs.Walks.{are_constants, does, fitting, lone_curly, opened_of, is_enum, opened_seen, passed_at, room, same, state_seen};
 ghost use Rattle.java_fault_finder.specs.declared.states.Passed.TheVariants as p;
 
 use crate::members::{are_constants, is_bodied, is_declared};
@@ -17,11 +17,9 @@ use java_member_grammar::{JHome, JTypeHead};
 use java_member_parser::{import_line, package_line, type_head};
 use java_modifier_rules::{Owner, home_of, type_fits};
 use java_token_cursor::{Piece, Pieces, open_curly};
-use java_tree::{JToken, Mark, Position, TokenKind};
+use java_tree::{JToken, MAX_DEPTH, Mark, Position, TokenKind};
+use java_type_parser::let_go;
 use std::alloc::Global;
-
-/// How deep types may be.
-const MAX_DEPTH: usize = 200;
 
 /// Whether a `{` is all.
 #[tactic(auto, using(crate::proofs::Doing::lone))]
@@ -49,9 +47,11 @@ fn opens(head: JTypeHead) -> Passed
 fn fitting(place: JHome, head: JTypeHead) -> Option<Passed>
     ensures { result ≡ fitting place head }
 {
-    let fits = type_fits(place, &head);
-    let passed = opens(head);
-    if fits { Some(passed) } else { None }
+    if !type_fits(place, &head) {
+        let_go(head);
+        return None;
+    }
+    Some(opens(head))
 }
 
 /// A type's head with its `{`.
@@ -163,8 +163,13 @@ fn with_token<'a>(
     ensures long { IfOk result (λ v. length v.items ≡ length pieces.now + 1) }
 {
     let mut found = Vec::from_slice(alloc, pieces)?;
-    found.push(Piece::Token(token))?;
-    Ok(found)
+    match found.push(Piece::Token(token)) {
+        Ok(()) => Ok(found),
+        Err(error) => {
+            let_go(found);
+            Err(error.into())
+        }
+    }
 }
 
 impl Opened {
@@ -179,6 +184,19 @@ impl Opened {
     }
 }
 
+/// Whether the pieces are the constants of an enum, where the token stands behind them.
+fn are_constants_before<'a>(
+    alloc: Global,
+    text: Pieces<'a>,
+    end: &'a JToken,
+) -> Result<bool, NoMemory>
+    requires { length text.now + 1 < 2 ^ 32 }
+    ensures { IfOk result (λ b. b ≡ are_constants (shown text.now ++ token_seen end.now ∷ [])) }
+{
+    let pieces = with_token(alloc, text, end)?;
+    are_constants(alloc, pieces.as_slice())
+}
+
 /// The constants of an enum.
 #[tactic(auto, using(crate::proofs::Doing::asks))]
 fn constants_form<'a>(alloc: Global, text: Pieces<'a>) -> Result<Option<Passed>, NoMemory>
@@ -186,8 +204,9 @@ fn constants_form<'a>(alloc: Global, text: Pieces<'a>) -> Result<Option<Passed>,
     ensures { Gives same Always (does (f.constants_form (shown text.now))) result }
 {
     let end = end_token();
-    let pieces = with_token(alloc, text, &end)?;
-    if are_constants(alloc, pieces.as_slice())? {
+    let found = are_constants_before(alloc, text, &end);
+    let_go(end);
+    if found? {
         Ok(Some(Passed::Constants))
     } else {
         Ok(None)

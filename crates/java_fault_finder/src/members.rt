@@ -8,7 +8,7 @@ ghost use Rattle.java_fault_finder.specs.Walks.{lone_end, are_constants};
 
 use j2k_base::NoMemory;
 use java_body_cuts::{close_curly, is_end};
-use java_body_parser::{constants_list, top_bodied, top_declared};
+use java_body_parser::{past_bodied, past_constants, past_declared};
 use java_modifier_rules::Owner;
 use java_token_cursor::Pieces;
 use std::alloc::Global;
@@ -23,8 +23,8 @@ pub fn is_declared<'a>(
     requires { length pieces.now < 2 ^ 32 }
     ensures { IfOk result (λ b. b ≡ is_some (f.declared_form (owner_seen owner.entry) (shown pieces.now))) }
 {
-    match top_declared(alloc, pieces, owner)? {
-        Some((_, rest)) => Ok(is_end(rest)),
+    match past_declared(alloc, pieces, owner)? {
+        Some(rest) => Ok(is_end(rest)),
         None => Ok(false),
     }
 }
@@ -35,8 +35,8 @@ pub fn is_bodied<'a>(alloc: Global, owner: Owner<'_>, pieces: Pieces<'a>) -> Res
     requires { length pieces.now < 2 ^ 32 }
     ensures { IfOk result (λ b. b ≡ is_some (f.bodied_form (owner_seen owner.entry) (shown pieces.now))) }
 {
-    match top_bodied(alloc, pieces, owner)? {
-        Some((_, rest)) => Ok(is_end(rest)),
+    match past_bodied(alloc, pieces, owner)? {
+        Some(rest) => Ok(is_end(rest)),
         None => Ok(false),
     }
 }
@@ -58,8 +58,8 @@ pub fn are_constants<'a>(alloc: Global, pieces: Pieces<'a>) -> Result<bool, NoMe
     requires { length pieces.now < 2 ^ 32 }
     ensures { IfOk result (λ b. b ≡ are_constants (shown pieces.now)) }
 {
-    match constants_list(alloc, pieces)? {
-        Some((_, rest)) => Ok(lone_end(rest)),
+    match past_constants(alloc, pieces)? {
+        Some(rest) => Ok(lone_end(rest)),
         None => Ok(false),
     }
 }

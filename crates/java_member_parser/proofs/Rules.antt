@@ -10,8 +10,8 @@ use Rattle.java_statement_grammar.specs.Reading.{args_read}
 use Rattle.java_member_grammar.specs.declared.lines.JArguments.{JArguments}
 use Rattle.java_member_grammar.specs.declared.heads.JMemberHead.TheVariants as head
 use Rattle.java_member_grammar.specs.Reading as m
-use Rattle.java_statement_parser.proofs.LawsToCite.{whole_end, whole_more}
-use Rattle.java_statement_parser.specs.Found.{is_end}
+use Rattle.java_declaration_parser.proofs.LawsToCite.{whole_end, whole_more}
+use Rattle.java_declaration_parser.specs.Found.{is_end}
 use Rattle.java_member_parser.specs.Steps.{only_static, star_at, starred, package_at, import_at, end_of, whole_member}
 
 -- ---- looks ahead

@@ -12,7 +12,7 @@ use Rattle.java_member_grammar.specs.Heads.{TypeHeadSpells, ConstantsSpell, Pack
 use Rattle.java_member_grammar.specs.Reading.{before_semicolon, before_block, type_head, constants, package_line, import_line}
 use Rattle.java_member_grammar.proofs.LawsToCite.{semicolon_is_spelled, semicolon_is_read, block_is_spelled, block_is_read, type_is_spelled, type_is_read, constants_are_spelled, constants_are_read, package_is_spelled, package_is_read, import_is_spelled, import_is_read}
 use Rattle.java_type_parser.specs.Gives.{Gives, Always}
-use Rattle.java_statement_parser.specs.Found.{TheOne, same}
+use Rattle.java_declaration_parser.specs.Found.{TheOne, same}
 use Rattle.java_member_parser.specs.Found.{TheMember}
 
 other : {A : Type 0} (x : A) (o : Option A) → None ≡ o → o ≡ Some x → ⊥

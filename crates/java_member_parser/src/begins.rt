@@ -7,8 +7,8 @@ ghost use Rattle.java_expr_grammar.specs.Reading as r;
 ghost use Rattle.java_member_grammar.specs.Reading as m;
 ghost use Rattle.java_member_parser.specs.Steps.{only_static, star_at, starred};
 
+use java_declaration_parser::at_end;
 use java_member_grammar::JStar;
-use java_statement_parser::at_end;
 use java_token_cursor::{Head, Pieces, comma, dot, first, open_round};
 use java_tree::{Keyword, Mark, Position};
 

@@ -5,13 +5,13 @@ ghost use Rattle.java_token_cursor.specs.Shown.{shown};
 ghost use Rattle.java_type_parser.specs.Gives.{Gives, Always};
 ghost use Rattle.java_expr_grammar.specs.Reading as r;
 ghost use Rattle.java_member_grammar.specs.Reading as m;
-ghost use Rattle.java_statement_parser.specs.Found.{found, listed_found, same};
+ghost use Rattle.java_declaration_parser.specs.Found.{found, listed_found, same};
 ghost use Rattle.java_member_parser.specs.Steps.{end_of};
 
 use crate::begins::{begins_id, comma_name};
 use j2k_base::NoMemory;
+use java_declaration_parser::{ArgsFound, ListFound, args_read, at_end};
 use java_member_grammar::{JArguments, JConstant, JConstants};
-use java_statement_parser::{ArgsFound, ListFound, args_read, at_end};
 use java_token_cursor::{Head, Pieces, comma, first};
 use java_tree::{JParam, Mark, Position};
 use java_type_parser::{found_or_let_go, ident, let_go, onward};
@@ -86,7 +86,7 @@ fn constant<'a>(
 }
 
 /// One or more constants.
-#[tactic(auto, using(java_statement_parser::proofs::LawsToCite::lists), unfolding(java_expr_grammar::specs::Reading::some_by))]
+#[tactic(auto, using(java_declaration_parser::proofs::LawsToCite::lists), unfolding(java_expr_grammar::specs::Reading::some_by))]
 fn some_constants<'a>(
     alloc: Global,
     pieces: Pieces<'a>,
@@ -101,7 +101,7 @@ fn some_constants<'a>(
     more_constants(alloc, found, rest, depth)
 }
 
-#[tactic(auto, using(java_statement_parser::proofs::LawsToCite::lists), unfolding(java_expr_grammar::specs::Reading::more_by))]
+#[tactic(auto, using(java_declaration_parser::proofs::LawsToCite::lists), unfolding(java_expr_grammar::specs::Reading::more_by))]
 fn more_constants<'a>(
     alloc: Global,
     mut found: ListFound<JConstant>,

@@ -5,13 +5,13 @@ ghost use Rattle.java_token_cursor.specs.Shown.{shown};
 ghost use Rattle.java_type_parser.specs.Gives.{Gives, Always};
 ghost use Rattle.java_expr_grammar.specs.Reading as r;
 ghost use Rattle.java_member_grammar.specs.Reading as m;
-ghost use Rattle.java_statement_parser.specs.Found.{same};
+ghost use Rattle.java_declaration_parser.specs.Found.{same};
 ghost use Rattle.java_member_parser.specs.Steps.{import_at, package_at};
 
 use crate::begins::star_first;
 use j2k_base::NoMemory;
+use java_declaration_parser::{at_end, semicolon};
 use java_member_grammar::{JImport, JPackage};
-use java_statement_parser::{at_end, semicolon};
 use java_token_cursor::{Head, Pieces, first};
 use java_tree::{JQualified, Keyword, Position};
 use java_type_parser::{let_go, qualified};

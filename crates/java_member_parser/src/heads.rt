@@ -4,7 +4,7 @@ ghost use Rattle.std.specs.Prelude.{◌≡◌, true, false, IfOk};
 ghost use Rattle.java_token_cursor.specs.Shown.{shown};
 ghost use Rattle.java_member_grammar.specs.Heads.{ConstantsSpell, ImportSpells, PackageSpells, TypeHeadSpells};
 ghost use Rattle.java_member_grammar.specs.Reading as m;
-ghost use Rattle.java_statement_parser.specs.Found.{TheOne};
+ghost use Rattle.java_declaration_parser.specs.Found.{TheOne};
 ghost use Rattle.java_member_parser.specs.Found.{TheMember};
 
 use crate::enums::constants_read;

@@ -4,7 +4,7 @@ ghost use Rattle.std.specs.Prelude.{◌≡◌};
 ghost use Rattle.java_token_cursor.specs.Shown.{shown};
 ghost use Rattle.java_type_parser.specs.Gives.{Gives, Always};
 ghost use Rattle.java_member_grammar.specs.Reading as m;
-ghost use Rattle.java_statement_parser.specs.Found.{found, same};
+ghost use Rattle.java_declaration_parser.specs.Found.{found, same};
 ghost use Rattle.java_member_parser.specs.Steps.{called_constructor, called_method, type_member, void_method, whole_member};
 
 use crate::begins::{begins_call, only_static};
@@ -12,8 +12,8 @@ use crate::modifiers::modifiers;
 use crate::params::type_params;
 use crate::parts::{formals, throws};
 use j2k_base::NoMemory;
+use java_declaration_parser::{at_end, declaration_of};
 use java_member_grammar::{JMemberHead, JModifier, JResult, JTypeParams};
-use java_statement_parser::{at_end, declaration_of};
 use java_token_cursor::{Head, Pieces, first};
 use java_tree::{JParam, JType, Keyword, Position};
 use java_type_parser::{found_or_let_go, ident, let_go, read_type};

@@ -5,12 +5,12 @@ ghost use Rattle.java_token_cursor.specs.Shown.{shown};
 ghost use Rattle.java_type_parser.specs.Gives.{Gives, Always};
 ghost use Rattle.java_expr_grammar.specs.Reading as r;
 ghost use Rattle.java_member_grammar.specs.Reading as m;
-ghost use Rattle.java_statement_parser.specs.Found.{found, listed_found};
+ghost use Rattle.java_declaration_parser.specs.Found.{found, listed_found};
 
 use crate::begins::closes;
 use j2k_base::NoMemory;
+use java_declaration_parser::ListFound;
 use java_member_grammar::{JBound, JTypeParam, JTypeParams};
-use java_statement_parser::ListFound;
 use java_token_cursor::{Head, Pieces, comma, first};
 use java_tree::{JParam, Keyword, Mark, Position};
 use java_type_parser::{found_or_let_go, ident, let_go, onward, read_type};
@@ -57,7 +57,7 @@ fn type_param<'a>(
 }
 
 /// One or more type parameters.
-#[tactic(auto, using(java_statement_parser::proofs::LawsToCite::lists), unfolding(java_expr_grammar::specs::Reading::some_by))]
+#[tactic(auto, using(java_declaration_parser::proofs::LawsToCite::lists), unfolding(java_expr_grammar::specs::Reading::some_by))]
 fn some_type_params<'a>(
     alloc: Global,
     pieces: Pieces<'a>,
@@ -72,7 +72,7 @@ fn some_type_params<'a>(
     more_type_params(alloc, found, rest, depth)
 }
 
-#[tactic(auto, using(java_statement_parser::proofs::LawsToCite::lists), unfolding(java_expr_grammar::specs::Reading::more_by))]
+#[tactic(auto, using(java_declaration_parser::proofs::LawsToCite::lists), unfolding(java_expr_grammar::specs::Reading::more_by))]
 fn more_type_params<'a>(
     alloc: Global,
     mut found: ListFound<JTypeParam>,

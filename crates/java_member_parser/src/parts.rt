@@ -5,12 +5,12 @@ ghost use Rattle.java_token_cursor.specs.Shown.{shown};
 ghost use Rattle.java_type_parser.specs.Gives.{Gives, Always};
 ghost use Rattle.java_expr_grammar.specs.Reading as r;
 ghost use Rattle.java_member_grammar.specs.Reading as m;
-ghost use Rattle.java_statement_parser.specs.Found.{found, listed_found};
+ghost use Rattle.java_declaration_parser.specs.Found.{found, listed_found};
 ghost use Rattle.java_member_parser.specs.Found.{list_found};
 
 use j2k_base::NoMemory;
+use java_declaration_parser::ListFound;
 use java_member_grammar::{JFormals, JTypeList};
-use java_statement_parser::ListFound;
 use java_token_cursor::{Head, Pieces, close, comma, first, open_round};
 use java_tree::{JType, Keyword, Position};
 use java_type_parser::{TypedsFound, found_or_let_go, let_go, onward, read_type, typed_from};
@@ -50,7 +50,7 @@ pub fn formals<'a>(
 }
 
 /// One or more types.
-#[tactic(auto, using(java_statement_parser::proofs::LawsToCite::lists), unfolding(java_expr_grammar::specs::Reading::some_by))]
+#[tactic(auto, using(java_declaration_parser::proofs::LawsToCite::lists), unfolding(java_expr_grammar::specs::Reading::some_by))]
 fn some_types<'a>(
     alloc: Global,
     pieces: Pieces<'a>,
@@ -65,7 +65,7 @@ fn some_types<'a>(
     more_types(alloc, found, rest, depth)
 }
 
-#[tactic(auto, using(java_statement_parser::proofs::LawsToCite::lists), unfolding(java_expr_grammar::specs::Reading::more_by))]
+#[tactic(auto, using(java_declaration_parser::proofs::LawsToCite::lists), unfolding(java_expr_grammar::specs::Reading::more_by))]
 fn more_types<'a>(
     alloc: Global,
     mut found: ListFound<JType>,

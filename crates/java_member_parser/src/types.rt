@@ -4,15 +4,15 @@ ghost use Rattle.std.specs.Prelude.{◌≡◌};
 ghost use Rattle.java_token_cursor.specs.Shown.{shown};
 ghost use Rattle.java_type_parser.specs.Gives.{Gives, Always};
 ghost use Rattle.java_member_grammar.specs.Reading as m;
-ghost use Rattle.java_statement_parser.specs.Found.{found, same};
+ghost use Rattle.java_declaration_parser.specs.Found.{found, same};
 ghost use Rattle.java_member_parser.specs.Steps.{class_read, enum_read, interface_read};
 
 use crate::modifiers::modifiers;
 use crate::params::{bound, type_params};
 use crate::parts::{extends_list, implements};
 use j2k_base::NoMemory;
+use java_declaration_parser::at_end;
 use java_member_grammar::{JModifier, JTypeHead};
-use java_statement_parser::at_end;
 use java_token_cursor::{Head, Pieces, first};
 use java_tree::{JParam, Keyword, Position};
 use java_type_parser::{found_or_let_go, ident, let_go};

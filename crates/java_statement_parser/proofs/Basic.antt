@@ -8,7 +8,7 @@ use Rattle.java_statement_grammar.specs.declared.statements.JForStart.{JForStart
 use Rattle.java_statement_grammar.specs.declared.statements.JForHead.{JForHead}
 use Rattle.java_statement_grammar.specs.declared.statements.JForHead.TheVariants as for
 use Rattle.java_statement_grammar.specs.Reading.{semicolon, condition, expressions, basic, for_read}
-use Rattle.java_statement_parser.proofs.Rules.{whole_end, whole_more}
+use Rattle.java_declaration_parser.proofs.LawsToCite.{whole_end, whole_more}
 use Rattle.java_statement_parser.specs.Basic.{Tests, tests_read, updates_read, for_first}
 
 abbrev headed : JForStart → Tests → Listed JExpr × Tokens → Read JForHead

@@ -1,4 +1,3 @@
 pub mod Rules
 pub mod Spelled
 pub mod Basic
-pub mod LawsToCite

@@ -1,18 +1,17 @@
 -- Reading, a step at a time.
-use Rattle.std.proofs.Common.{◌≡◌, ℕ, Bool, true, false, List, [], ◌∷◌, Option, Some, None, refl}
+use Rattle.std.proofs.Common.{◌≡◌, ℕ, true, false, List, [], ◌∷◌, Some, None, refl}
 use Rattle.java_tree.specs.declared.tokens.Position.{Position}
 use Rattle.java_tree.specs.declared.tokens.Mark.TheVariants as m
 use Rattle.java_tree.specs.declared.tokens.Keyword.TheVariants as w
 use Rattle.java_tree.specs.Seen.{Token, Tokens}
 use Rattle.java_tree.specs.Trees.{any_level}
 use Rattle.java_tree.specs.declared.types.JQualified.{JQualified}
-use Rattle.java_tree.specs.declared.exprs.JExpr.{JExpr}
 use Rattle.java_expr_grammar.specs.Reading.{◌>>=◌, maybe, whole, is_some, colon, ident, dot, close_square, read}
-use Rattle.java_type_parser.proofs.LawsToCite.{length_shown}
-use Rattle.java_statement_grammar.specs.declared.statements.JLabelName.{JLabelName}
+use Rattle.java_declaration_parser.proofs.LawsToCite.{whole_end, whole_more}
 use Rattle.java_statement_grammar.specs.declared.statements.JLock.TheVariants as lock
 use Rattle.java_statement_grammar.specs.Reading.{declares, walks, label_of, value_of, class_of}
-use Rattle.java_statement_parser.specs.Found.{is_end, class_word}
+use Rattle.java_declaration_parser.specs.Found.{is_end}
+use Rattle.java_statement_parser.specs.Trees.{class_word}
 
 -- ---- looks ahead
 
@@ -29,14 +28,6 @@ walks_is (Token.Id n at ∷ _ ∷ ts) = refl
 walks_is (_ ∷ ts) = refl
 
 -- ---- at the end
-
-pub whole_end : {A : Type 0} (x : A) (ts : Tokens) → is_end ts ≡ true → whole (Some (x, ts)) ≡ Some x
-whole_end x [] e = refl
-whole_end x (t ∷ ts) e = absurd (cc e)
-
-pub whole_more : {A : Type 0} (x : A) (ts : Tokens) → is_end ts ≡ false → whole (Some (x, ts)) ≡ None
-whole_more x [] e = absurd (cc e)
-whole_more x (t ∷ ts) e = refl
 
 pub label_end : (n : List ℕ) (at : Position) (ts : Tokens) → is_end ts ≡ true → label_of (Token.Id n at ∷ ts) ≡ Some (Some (record { name = n; at = at }))
 label_end n at [] e = refl
@@ -72,5 +63,3 @@ pub ruleset looks = (declares_square, walks_is)
 pub ruleset ends = (whole_end, whole_more, label_end, label_more, value_end, value_more)
 
 pub ruleset locks = (class_is, whole_end, whole_more)
-
-pub ruleset lists = (length_shown)

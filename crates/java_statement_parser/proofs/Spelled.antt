@@ -10,7 +10,7 @@ use Rattle.java_statement_grammar.specs.Heads.{SimpleSpells, ForSpells, LockSpel
 use Rattle.java_statement_grammar.specs.Reading.{simple_read, for_read, lock_read, switch_read}
 use Rattle.java_statement_grammar.proofs.LawsToCite.{simple_is_spelled, simple_is_read, for_is_spelled, for_is_read, lock_is_spelled, lock_is_read, switch_is_spelled, switch_is_read}
 use Rattle.java_type_parser.specs.Gives.{Gives, Always}
-use Rattle.java_statement_parser.specs.Found.{TheOne, same}
+use Rattle.java_declaration_parser.specs.Found.{TheOne, same}
 
 other : {A : Type 0} (x : A) (o : Option A) → None ≡ o → o ≡ Some x → ⊥
 other x None e f = cc f

@@ -1,3 +1,3 @@
-pub mod Found
+pub mod Trees
 pub mod Basic
 pub mod Jumps

@@ -4,7 +4,7 @@ ghost use Rattle.std.specs.Prelude.{◌≡◌, IfOk};
 ghost use Rattle.java_token_cursor.specs.Shown.{shown};
 ghost use Rattle.java_statement_grammar.specs.Heads.{ForSpells, LockSpells, SimpleSpells, SwitchSpells};
 ghost use Rattle.java_statement_grammar.specs.Reading as h;
-ghost use Rattle.java_statement_parser.specs.Found.{TheOne};
+ghost use Rattle.java_declaration_parser.specs.Found.{TheOne};
 
 use crate::labels::{lock_read, switch_read};
 use crate::loops::for_read;

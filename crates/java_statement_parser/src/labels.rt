@@ -5,11 +5,12 @@ ghost use Rattle.java_token_cursor.specs.Heads.{Finds};
 ghost use Rattle.java_token_cursor.specs.Shown.{shown};
 ghost use Rattle.java_type_parser.specs.Gives.{Gives, Always};
 ghost use Rattle.java_statement_grammar.specs.Reading as h;
-ghost use Rattle.java_statement_parser.specs.Found.{class_word, found, same};
+ghost use Rattle.java_declaration_parser.specs.Found.{found, same};
+ghost use Rattle.java_statement_parser.specs.Trees.{class_word};
 
-use crate::begins::at_end;
 use crate::parts::whole;
 use j2k_base::NoMemory;
+use java_declaration_parser::at_end;
 use java_exprs::read;
 use java_statement_grammar::{JLock, JSwitchLabel};
 use java_token_cursor::{Head, Pieces, colon, dot, first};

@@ -10,8 +10,4 @@ mod loops;
 mod parts;
 mod statements;
 
-pub use begins::{at_end, semicolon};
-pub use declarations::declaration_of;
-pub use found::{ArgsFound, ListFound};
 pub use heads::{for_head, lock, simple, switch_label};
-pub use parts::args_read;

@@ -5,14 +5,14 @@ ghost use Rattle.java_statement_grammar.specs.declared.statements.JForHead.TheVa
 ghost use Rattle.java_token_cursor.specs.Shown.{shown};
 ghost use Rattle.java_type_parser.specs.Gives.{Gives, Always};
 ghost use Rattle.java_statement_grammar.specs.Reading as h;
-ghost use Rattle.java_statement_parser.specs.Found.{found, same};
+ghost use Rattle.java_declaration_parser.specs.Found.{found, same};
 ghost use Rattle.java_statement_parser.specs.Basic.{for_first, tests_found, tests_read, updates_read};
 
-use crate::begins::{at_end, begins_declaration, final_first, semicolon, walks};
-use crate::declarations::declaration_of;
-use crate::found::{ListFound, TestsFound};
+use crate::begins::{begins_declaration, final_first, walks};
+use crate::found::TestsFound;
 use crate::parts::{expressions, unboxed};
 use j2k_base::NoMemory;
+use java_declaration_parser::{ListFound, at_end, declaration_of, semicolon};
 use java_exprs::read;
 use java_statement_grammar::{JForHead, JForStart};
 use java_token_cursor::{Pieces, colon};

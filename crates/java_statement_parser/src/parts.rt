@@ -8,13 +8,14 @@ ghost use Rattle.java_expr_grammar.specs.Reading as r;
 ghost use Rattle.java_exprs.specs.Exprs.{expr_found};
 ghost use Rattle.java_statement_grammar.specs.Heads as d;
 ghost use Rattle.java_statement_grammar.specs.Reading as h;
-ghost use Rattle.java_statement_parser.specs.Found.{args_found, same, listed_found, tree_found};
+ghost use Rattle.java_declaration_parser.specs.Found.{same, listed_found};
+ghost use Rattle.java_statement_parser.specs.Trees.{tree_found};
 
-use crate::begins::{at_end, ends_expressions};
-use crate::found::{ArgsFound, ListFound};
+use crate::begins::ends_expressions;
 use j2k_base::NoMemory;
-use java_exprs::{ExprFound, ExprsFound, arguments, read};
-use java_token_cursor::{Pieces, close, comma};
+use java_declaration_parser::{ListFound, at_end};
+use java_exprs::{ExprFound, read};
+use java_token_cursor::{Pieces, comma};
 use java_tree::{JExpr, PrefixOp};
 use java_type_parser::{found_or_let_go, let_go, onward};
 use sqlite_items::Boxed;
@@ -115,7 +116,7 @@ pub fn statement_read<'a>(
 }
 
 /// One or more of them, with commas between them.
-#[tactic(auto, using(crate::proofs::Rules::lists), unfolding(java_expr_grammar::specs::Reading::some_by))]
+#[tactic(auto, using(java_declaration_parser::proofs::LawsToCite::lists), unfolding(java_expr_grammar::specs::Reading::some_by))]
 fn some_steps<'a>(
     alloc: Global,
     pieces: Pieces<'a>,
@@ -130,7 +131,7 @@ fn some_steps<'a>(
     more_steps(alloc, found, rest, depth)
 }
 
-#[tactic(auto, using(crate::proofs::Rules::lists), unfolding(java_expr_grammar::specs::Reading::more_by))]
+#[tactic(auto, using(java_declaration_parser::proofs::LawsToCite::lists), unfolding(java_expr_grammar::specs::Reading::more_by))]
 fn more_steps<'a>(
     alloc: Global,
     mut found: ListFound<JExpr>,
@@ -163,35 +164,4 @@ pub fn expressions<'a>(
         return Ok(Some((ListFound::none(alloc), pieces)));
     }
     some_steps(alloc, pieces, depth)
-}
-
-/// Arguments no deeper than `depth` and the `)` behind them, and the pieces after it.
-#[tactic(auto, unfolding(java_statement_grammar::specs::Reading::args_read))]
-pub fn args_read<'a>(
-    alloc: Global,
-    pieces: Pieces<'a>,
-    depth: usize,
-) -> Result<Option<(ArgsFound, Pieces<'a>)>, NoMemory>
-    ensures { Gives args_found Always (h.args_read depth (shown pieces.now)) result }
-{
-    let Some((args, rest)) = arguments(alloc, pieces, depth)? else {
-        return Ok(None);
-    };
-    let Some((close, rest)) = close(rest) else {
-        let_go(args);
-        return Ok(None);
-    };
-    let ExprsFound {
-        items,
-        commas,
-        deepest: _,
-    } = args;
-    Ok(Some((
-        ArgsFound {
-            items,
-            commas,
-            close,
-        },
-        rest,
-    )))
 }

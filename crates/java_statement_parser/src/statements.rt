@@ -6,14 +6,14 @@ ghost use Rattle.java_tree.specs.declared.tokens.Keyword.TheVariants as w;
 ghost use Rattle.java_token_cursor.specs.Shown.{shown};
 ghost use Rattle.java_type_parser.specs.Gives.{Gives, Always};
 ghost use Rattle.java_statement_grammar.specs.Reading as h;
-ghost use Rattle.java_statement_parser.specs.Found.{same};
+ghost use Rattle.java_declaration_parser.specs.Found.{same};
 ghost use Rattle.java_statement_parser.specs.Jumps.{break_read, continue_read};
 
-use crate::begins::{at_end, begins_declaration};
+use crate::begins::begins_declaration;
 use crate::declarations::declaration_read;
-use crate::found::ArgsFound;
-use crate::parts::{args_read, statement_read, unboxed, value_of, whole};
+use crate::parts::{statement_read, unboxed, value_of, whole};
 use j2k_base::{Name, NoMemory};
+use java_declaration_parser::{ArgsFound, args_read, at_end};
 use java_statement_grammar::{JLabelName, JSimple};
 use java_token_cursor::{Head, Pieces, copied, first};
 use java_tree::{Keyword, Mark, Position};

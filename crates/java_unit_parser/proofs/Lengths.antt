@@ -6,12 +6,7 @@ use Rattle.java_tree.specs.Seen.{Token, Tokens}
 use Rattle.java_token_cursor.specs.declared.piece.Piece.{Piece}
 use Rattle.java_token_cursor.specs.Shown.{shown}
 use Rattle.java_type_parser.proofs.LawsToCite.{length_shown}
-use Rattle.java_unit_grammar.specs.Reading.{before_curly, line}
-
-curly_within : (ts : Tokens) → length (before_curly ts).1 ≤ length ts
-curly_within [] = omega arith
-curly_within (Token.Sign m.OpenCurly at ∷ rest) = omega arith
-curly_within (x ∷ rest) = let h = curly_within rest in omega (arith, h)
+use Rattle.java_unit_grammar.specs.Reading.{line}
 
 line_within : (ts : Tokens) → length (line ts).1 ≤ length ts
 line_within [] = omega arith
@@ -25,10 +20,7 @@ shown_within xs ys ts e h =
     let c = length_shown ys in
     omega (arith, a, b, c, h)
 
-pub curly_shorter : (xs : List Piece) (p : Bor (List Piece) × Bor (List Piece)) → (shown p.0.now, shown p.1.now) ≡ before_curly (shown xs) → length p.1.now ≤ length xs
-curly_shorter xs p e = shown_within xs p.1.now _ (ap (λ (x : Tokens × Tokens). x.1) e) (curly_within (shown xs))
-
 pub line_shorter : (xs : List Piece) (p : Bor (List Piece) × Bor (List Piece)) → (shown p.0.now, shown p.1.now) ≡ line (shown xs) → length p.1.now ≤ length xs
 line_shorter xs p e = shown_within xs p.1.now _ (ap (λ (x : Tokens × Tokens). x.1) e) (line_within (shown xs))
 
-pub ruleset lengths = (curly_shorter, line_shorter)
+pub ruleset lengths = (line_shorter)

@@ -1,10 +1,12 @@
 -- What the readers of a file answer, and a function value that reads members.
-use Rattle.std.specs.Prelude.{◌≡◌, ◌≤◌, ◌<◌, ◌^◌, ℕ, List, length, Option, Some, None, Result}
+use Rattle.std.specs.Prelude.{◌<◌, ◌^◌, ℕ, List, length, Option, Some, None, Result}
 use Rattle.std.specs.Borrow.{Bor}
 use Rattle.std.specs.declared.alloc.Global.{Global}
 use Rattle.j2k_base.specs.declared.errors.NoMemory.{NoMemory}
 use Rattle.java_tree.specs.Seen.{Tokens}
-use Rattle.java_expr_grammar.specs.Reading.{Read}
+use Rattle.java_expr_grammar.specs.Reading.{◌>>=◌, whole}
+use Rattle.java_member_grammar.specs.declared.lines.JPackage.{JPackage}
+use Rattle.java_member_grammar.specs.declared.lines.JImport.{JImport}
 use Rattle.java_token_cursor.specs.declared.piece.Piece.{Piece}
 use Rattle.java_token_cursor.specs.Shown.{shown}
 use Rattle.java_type_parser.specs.Gives.{Gives}
@@ -12,17 +14,8 @@ use Rattle.java_unit_grammar.specs.declared.statements.JMember.{JMember}
 use Rattle.java_unit_grammar.specs.Reading as r
 use Rattle.java_modifier_rules.specs.declared.fits.Owner.{Owner}
 use Rattle.java_modifier_rules.specs.Fits.{owner_seen}
-use Rattle.java_body_parser.specs.Asks.{Shorter, found}
-use Rattle.java_unit_parser.specs.declared.tops.Inside.{Inside}
+use Rattle.java_block_parser.specs.Asks.{Shorter, found}
 use Rattle.java_unit_parser.specs.declared.files.Declared.{Declared}
-
--- What is found is what is read, and what follows is no longer.
-abbrev pub Takes : {A : Type 0} → List Piece → Read A → Option (A × Bor (List Piece)) → Type 0
-Takes ts read None = read ≡ None
-Takes ts read (Some x) = (read ≡ Some (x.0, shown x.1.now)) × (length x.1.now ≤ length ts)
-
-abbrev pub inside_found : Inside × Bor (List Piece) → r.Inside × Tokens
-inside_found x = (record { constants = x.0.constants; bodies = x.0.bodies; members = x.0.members }, shown x.1.now)
 
 -- A function value reads members of which at most n stand in each other.
 pub record Nests (n : ℕ) (pre : Global → Bor (List Piece) → Owner → ℕ → Type 0)
@@ -38,3 +31,11 @@ one_seen x = record { within = x.within; imports = x.imports; types = x.types }
 abbrev pub declared_seen : Option Declared → Option r.Declared
 declared_seen None = None
 declared_seen (Some x) = Some (one_seen x)
+
+-- the types of a file behind its lines
+abbrev pub types_behind : ℕ → Option JPackage → List JImport → Tokens → Option r.Declared
+types_behind n within imports ts = whole (r.until r.is_end (r.file_read n) ts) >>= λ xs. Some (record { within = within; imports = imports; types = xs })
+
+-- the imports and the types behind the line of the package
+abbrev pub imports_behind : ℕ → Option JPackage → Tokens → Option r.Declared
+imports_behind n within ts = r.until r.no_import r.import_read ts >>= λ x. types_behind n within x.0 x.1

@@ -5,7 +5,7 @@ ghost use Rattle.java_tree.specs.Seen.{seen};
 ghost use Rattle.java_unit_grammar.specs.Reading as r;
 ghost use Rattle.java_token_cursor.specs.Shown.{shown};
 ghost use Rattle.java_type_parser.specs.Gives.{Gives, Always};
-ghost use Rattle.java_unit_parser.specs.Files.{declared_seen, one_seen};
+ghost use Rattle.java_unit_parser.specs.Files.{declared_seen, imports_behind, one_seen, types_behind};
 
 use crate::lists::{imports, package, types};
 use j2k_base::NoMemory;
@@ -13,6 +13,7 @@ use java_body_cuts::{is_end, raw};
 use java_member_grammar::{JImport, JPackage};
 use java_token_cursor::Pieces;
 use java_tree::JToken;
+use java_type_parser::let_go;
 use java_unit_grammar::JMember;
 use sqlite_items::Items;
 use std::alloc::Global;
@@ -26,7 +27,73 @@ pub struct Declared {
     pub types: Items<JMember>,
 }
 
-#[tactic(auto, using(crate::proofs::Units::ends), unfolding(java_unit_grammar::specs::Reading::unit_read))]
+/// The lines of a file.
+#[derive(Drop)]
+struct Lines {
+    within: Option<JPackage>,
+    imports: Items<JImport>,
+}
+
+/// The types of a file behind its lines.
+#[tactic(auto, using(crate::proofs::Units::ends))]
+fn types_behind<'a>(
+    alloc: Global,
+    lines: Lines,
+    pieces: Pieces<'a>,
+    count: usize,
+) -> Result<Option<Declared>, NoMemory>
+    requires size { length pieces.now < 2 ^ 32 }
+    ensures { Gives one_seen Always (types_behind count lines.within lines.imports (shown pieces.now)) result }
+{
+    match types(alloc, pieces, count) {
+        Ok(Some((types, rest))) => {
+            if is_end(rest) {
+                let Lines { within, imports } = lines;
+                Ok(Some(Declared {
+                    within,
+                    imports,
+                    types,
+                }))
+            } else {
+                let_go((lines, types));
+                Ok(None)
+            }
+        }
+        Ok(None) => {
+            let_go(lines);
+            Ok(None)
+        }
+        Err(error) => {
+            let_go(lines);
+            Err(error)
+        }
+    }
+}
+
+/// The imports of a file and what follows, behind the line of its package.
+fn imports_behind<'a>(
+    alloc: Global,
+    within: Option<JPackage>,
+    pieces: Pieces<'a>,
+    count: usize,
+) -> Result<Option<Declared>, NoMemory>
+    requires size { length pieces.now < 2 ^ 32 }
+    ensures { Gives one_seen Always (imports_behind count within (shown pieces.now)) result }
+{
+    match imports(alloc, pieces) {
+        Ok(Some((imports, rest))) => types_behind(alloc, Lines { within, imports }, rest, count),
+        Ok(None) => {
+            let_go(within);
+            Ok(None)
+        }
+        Err(error) => {
+            let_go(within);
+            Err(error)
+        }
+    }
+}
+
+#[tactic(auto, unfolding(java_unit_grammar::specs::Reading::unit_read))]
 fn unit_of<'a>(
     alloc: Global,
     pieces: Pieces<'a>,
@@ -35,23 +102,10 @@ fn unit_of<'a>(
     requires size { length pieces.now < 2 ^ 32 }
     ensures { Gives one_seen Always (r.unit_read count (shown pieces.now)) result }
 {
-    let Some((within, rest)) = package(alloc, pieces)? else {
-        return Ok(None);
-    };
-    let Some((imports, rest)) = imports(alloc, rest)? else {
-        return Ok(None);
-    };
-    let Some((types, rest)) = types(alloc, rest, count)? else {
-        return Ok(None);
-    };
-    if is_end(rest) {
-        Ok(Some(Declared {
-            within,
-            imports,
-            types,
-        }))
-    } else {
-        Ok(None)
+    match package(alloc, pieces) {
+        Ok(Some((within, rest))) => imports_behind(alloc, within, rest, count),
+        Ok(None) => Ok(None),
+        Err(error) => Err(error),
     }
 }
 

@@ -4,12 +4,12 @@ ghost use Rattle.std.specs.Prelude.{◌≡◌, ◌≤◌, ◌<◌, ◌^◌, leng
 ghost use Rattle.java_unit_grammar.specs.Reading as r;
 ghost use Rattle.java_token_cursor.specs.Shown.{shown};
 ghost use Rattle.java_type_parser.specs.Gives.{Gives};
-ghost use Rattle.java_body_parser.specs.Asks.{Shorter, found};
+ghost use Rattle.java_block_parser.specs.Asks.{Shorter, found};
 
 use crate::parts::at_line;
 use crate::tops::{Tops, top};
+use java_block_parser::{Answer, typed};
 use java_body_cuts::{begins_import, begins_package, is_end};
-use java_body_parser::Answer;
 use java_member_grammar::{JHome, JImport, JMemberHead, JPackage};
 use java_member_parser::{import_line, package_line};
 use java_token_cursor::{Head, Pieces, first};
@@ -85,12 +85,12 @@ fn file<'a>(alloc: Global, pieces: Pieces<'a>, types: usize) -> Answer<'a, Boxed
         let tree = JMember::Declared(JMemberHead::Empty, Items::new(alloc), at);
         return Ok(Some((Boxed::new(alloc, tree)?, rest)));
     }
-    Tops {
+    let tops = Tops {
         alloc,
         types,
         read: top,
-    }
-    .typed(pieces, JHome::File)
+    };
+    typed(alloc, &tops, pieces, JHome::File)
 }
 
 /// The types of a file and each `;` among them, as far as the end.

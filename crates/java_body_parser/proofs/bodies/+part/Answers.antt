@@ -1,7 +1,7 @@
 use Rattle.std.proofs.Common.{◌≡◌, ◌+◌, ◌-◌, subst, sym, arith}
 use Rattle.java_type_parser.specs.Gives.{Gives}
 use Rattle.java_token_cursor.specs.Shown.{shown}
-use Rattle.java_body_parser.specs.Asks.{Shorter, part_found}
+use Rattle.java_block_parser.specs.Asks.{Shorter, part_found}
 use Rattle.java_body_parser.proofs.Parts.{asked_more}
 use Rattle.java_body_parser.proofs.bodies.+part.Goals as goal
 

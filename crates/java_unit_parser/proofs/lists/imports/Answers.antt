@@ -1,6 +1,6 @@
 use Rattle.std.proofs.Common.{sym, ◌∙◌, arith}
 use Rattle.java_unit_grammar.specs.Reading as r
-use Rattle.java_body_parser.proofs.LawsToCite.{stopped, ended, stuck, longer}
+use Rattle.java_block_parser.proofs.LawsToCite.{stopped, ended, stuck, longer}
 use Rattle.java_unit_parser.proofs.lists.imports.Goals as goal
 
 pub returns-then-ends_imports : goal.returns-then-ends_imports

@@ -1,7 +1,7 @@
 use Rattle.std.proofs.Common.{◌≡◌, ◌≤◌, ◌-◌, length}
 use Rattle.java_token_cursor.specs.Shown.{shown}
 use Rattle.java_unit_grammar.specs.Reading as r
-use Rattle.java_body_parser.specs.Asks.{onto}
+use Rattle.java_block_parser.specs.Asks.{onto}
 use Rattle.java_unit_parser.proofs.lists.types.Given as goal
 
 abbrev pub invariant-loop-turn : goal.invariant-loop-turn

@@ -3,7 +3,7 @@ use Rattle.java_unit_grammar.specs.Reading as r
 use Rattle.java_token_cursor.specs.Shown.{shown}
 use Rattle.java_type_parser.specs.Gives.{Gives}
 use Rattle.java_modifier_rules.specs.Fits.{owner_seen}
-use Rattle.java_body_parser.specs.Asks.{Shorter, found}
+use Rattle.java_block_parser.specs.Asks.{Shorter, found}
 use Rattle.java_unit_parser.proofs.tops.+top.Goals as goal
 
 pub returns-then-types-eq0 : goal.returns-then-types-eq0

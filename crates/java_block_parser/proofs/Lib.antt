@@ -1,0 +1,4 @@
+pub mod Many
+pub mod Sizes
+pub mod Steps
+pub mod LawsToCite

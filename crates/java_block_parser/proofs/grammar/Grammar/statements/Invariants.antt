@@ -1,0 +1,12 @@
+use Rattle.std.proofs.Common.{◌≡◌, ◌≤◌, ◌-◌, length}
+use Rattle.java_unit_grammar.specs.Standing as s
+use Rattle.java_unit_grammar.specs.Reading as r
+use Rattle.java_token_cursor.specs.Shown.{shown}
+use Rattle.java_block_parser.specs.Asks.{onto, stop}
+use Rattle.java_block_parser.proofs.grammar.Grammar.statements.Given as goal
+
+abbrev pub invariant-loop-turn : goal.invariant-loop-turn
+invariant-loop-turn g l = record {
+  same : r.many (stop l.until) ((r.readers l.self.steps).statement l.depth s.Role.Inner) (length (shown l.fn.pieces)) (shown l.fn.pieces) ≡ onto l.items (r.many (stop l.until) ((r.readers l.self.steps).statement l.depth s.Role.Inner) (l._turn-end - l._turn) (shown l.pieces));
+  shorter : length l.pieces ≤ length l.fn.pieces;
+}

@@ -1,2 +1,0 @@
--- What other crates cite of this one's proofs.
-pub use Rattle.java_body_parser.proofs.Many.{ended, longer, stopped, stuck}

@@ -1,5 +1,0 @@
-use Rattle.java_body_parser.proofs.Sizes.{curly_shorter}
-use Rattle.java_body_parser.proofs.members.at_curly.Goals as goal
-
-pub returns-clause-shorter : goal.returns-clause-shorter
-returns-clause-shorter c = curly_shorter _ _ _ c.before_curly.ensures
