@@ -11,7 +11,7 @@ ghost use Rattle.java_parser.specs.Judging.{IsJudged};
 
 use crate::faults::{SyntaxFault, fault_in, of_flaw};
 use j2k_base::{NoMemory, Stop};
-use java_brackets::{Paired, pairs};
+use java_brackets::first_flaw;
 use java_fault_finder::first_fault;
 use java_tree::{JToken, Tokens};
 use java_unit_grammar::JUnit;
@@ -56,11 +56,9 @@ fn judge(alloc: Global, tokens: &[JToken]) -> Result<Judged, NoMemory>
     requires { length tokens.now < 2 ^ 32 }
     ensures { IfOk result (λ j. IsJudged tokens.now j) }
 {
-    match pairs(alloc, tokens)? {
-        Paired::Flawed(flawed) => {
-            Ok(Judged::Fault(of_flaw(flawed.flaw), flawed.number as usize))
-        }
-        Paired::Pairs(_) => judge_runs(alloc, tokens),
+    match first_flaw(alloc, tokens)? {
+        Some(flawed) => Ok(Judged::Fault(of_flaw(flawed.flaw), flawed.number as usize)),
+        None => judge_runs(alloc, tokens),
     }
 }
 
