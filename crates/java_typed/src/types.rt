@@ -1,0 +1,36 @@
+// Types.
+
+use j2k_base::Kind;
+use sqlite_items::{Boxed, Items};
+
+/// A class or an interface: of the library by the number of its row, or of the project by its number.
+#[derive(Clone, Copy, PartialEq, Eq)]
+pub enum ClassRef {
+    Library(u8),
+    Project(u32),
+}
+
+/// A type of an expression or of a variable (JLS 4).
+#[derive(Drop)]
+pub enum TType {
+    /// An integer type (JLS 4.2.1).
+    Number(Kind),
+    Boolean,
+    /// The type of `null` (JLS 4.1).
+    Null,
+    /// A class or an interface with its type arguments, none where it has no parameters (JLS 4.5).
+    Class(ClassRef, Items<TType>),
+    /// A type parameter, by the class that declares it and its place there (JLS 4.4).
+    Variable(ClassRef, u32),
+    /// An array, by the type of its elements (JLS 10.1).
+    Array(Boxed<TType>),
+}
+
+pub type TTypes = Items<TType>;
+
+/// A result of a method (JLS 8.4.5).
+#[derive(Drop)]
+pub enum TResult {
+    Void,
+    Value(TType),
+}
