@@ -2,6 +2,22 @@
 //! a node.
 #![tactic(auto)]
 
+mod exprs;
+mod members;
+mod reading;
+mod statements;
 mod types;
+mod units;
 
-pub use types::{ClassRef, TResult, TType, TTypes};
+pub use exprs::{Conversion, TExpr, TExprs, TLambda, TLambdaParam, UnaryOp};
+pub use members::{Access, MemberRef, TModifiers};
+pub use reading::{first_at, library_classes, type_of, viewed};
+pub use statements::{
+    TBody, TCaseGroup, TCatch, TDeclarator, TForStart, TLabel, TLock, TSimple, TStatement,
+    TStatements,
+};
+pub use types::{ClassRef, ResultView, TResult, TType, TTypes, TWritten, TypeView};
+pub use units::{
+    ClassSort, TBlock, TClass, TConstructor, TField, TFirstCall, TInitializer, TMember, TMethod,
+    TParam, TTypeParam, TUnit,
+};

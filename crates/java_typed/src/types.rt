@@ -1,6 +1,7 @@
 // Types.
 
 use j2k_base::Kind;
+use java_tree::Position;
 use sqlite_items::{Boxed, Items};
 
 /// A class or an interface: of the library by the number of its row, or of the project by its number.
@@ -33,4 +34,31 @@ pub type TTypes = Items<TType>;
 pub enum TResult {
     Void,
     Value(TType),
+}
+
+/// A type that stands in the text, or that `<>` or an untyped parameter of a lambda stands for: the type, and of each
+/// reference type in it, from the outside to the inside and from left to right, where it is named: the last identifier of
+/// its name, or the `[` of its dimension. None where nothing is written.
+#[derive(Drop)]
+pub struct TWritten {
+    pub kind: TType,
+    pub places: Items<Position>,
+}
+
+/// A type with its parts where they stand, so that a decision on it copies nothing.
+#[derive(Clone, Copy)]
+pub enum TypeView<'a> {
+    Number(Kind),
+    Boolean,
+    Null,
+    Class(ClassRef, &'a [TType]),
+    Variable(ClassRef, u32),
+    Array(&'a TType),
+}
+
+/// A result with its parts where they stand.
+#[derive(Clone, Copy)]
+pub enum ResultView<'a> {
+    Void,
+    Value(TypeView<'a>),
 }
