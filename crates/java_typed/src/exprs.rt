@@ -65,13 +65,9 @@ pub enum TExpr {
     },
     /// An expression in parentheses (JLS 15.8.5).
     Paren(Position, Boxed<TExpr>),
-    /// A local or a parameter: its name, where that stands, where it stands in its declaration (JLS 6.5.6.1).
-    Local {
-        name: Name,
-        at: Position,
-        declared: Position,
-        kind: TType,
-    },
+    /// A local or a parameter, by its name: in the text of one class no two of one name are in scope at a place (JLS 6.4,
+    /// 6.5.6.1).
+    Local(Name, Position, TType),
     /// A static field: the first token, the field, where its name stands (JLS 6.5.6, 15.11).
     Static {
         first: Position,

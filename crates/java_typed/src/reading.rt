@@ -20,7 +20,7 @@ pub fn first_at(x: &TExpr) -> Position
         | TExpr::Null(at)
         | TExpr::This { at, .. }
         | TExpr::Paren(at, _)
-        | TExpr::Local { at, .. }
+        | TExpr::Local(_, at, _)
         | TExpr::Unary(_, at, _)
         | TExpr::Cast(at, ..)
         | TExpr::New { at, .. }
@@ -179,7 +179,7 @@ pub fn type_of<'a>(x: &'a TExpr) -> ResultView<'a>
         TExpr::Literal(v, _) => ResultView::Value(literal(v)),
         TExpr::Null(_) => ResultView::Value(TypeView::Null),
         TExpr::This { kind, .. }
-        | TExpr::Local { kind, .. }
+        | TExpr::Local(_, _, kind)
         | TExpr::Static { kind, .. }
         | TExpr::Field { kind, .. }
         | TExpr::Element(_, _, kind)

@@ -119,7 +119,8 @@ pub enum ClassSort {
 }
 
 /// A class or an interface (JLS 8, 9): its number in the project, that of the type around it, its members by sort, and the
-/// order in which they are written. The initializers of both parts stand in one list in the order of the text.
+/// order in which they are written. The initializers of both parts stand in one list in the order of the text. An anonymous
+/// class holds the names of the locals around it that it uses.
 #[derive(Drop)]
 pub struct TClass {
     pub number: u32,
@@ -137,6 +138,7 @@ pub struct TClass {
     pub constructors: Items<TConstructor>,
     pub initializers: Items<TInitializer>,
     pub order: Items<TMember>,
+    pub captured: Items<Name>,
 }
 
 /// A compilation unit (JLS 7.3): the path of the file, the parts of its package's name, all its classes in the order of
