@@ -49,7 +49,8 @@ pub enum TLock {
     Class(ClassRef),
 }
 
-/// What stands between the braces of a lambda's block, or the number of the anonymous class that a body declares.
+/// What stands between the braces of a lambda's block, or the anonymous class that a body declares, by its place among the
+/// classes of the unit.
 #[cycle(typed)]
 #[derive(Drop)]
 pub enum TBody {

@@ -4,7 +4,8 @@ use j2k_base::Kind;
 use java_tree::Position;
 use sqlite_items::{Boxed, Items};
 
-/// A class or an interface: of the library by the number of its row, or of the project by its number.
+/// A class or an interface: of the library by the number of its row, or of the project by its place among the classes of all
+/// units in their order.
 #[derive(Clone, Copy, PartialEq, Eq)]
 pub enum ClassRef {
     Library(u8),

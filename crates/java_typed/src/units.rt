@@ -100,7 +100,7 @@ pub enum TInitializer {
     },
 }
 
-/// A member by its place among those of its sort, or a member type by its number.
+/// A member by its place among those of its sort, or a member type by its place among the classes of the unit.
 #[derive(Clone, Copy, PartialEq, Eq)]
 pub enum TMember {
     Field(u32),
@@ -118,12 +118,11 @@ pub enum ClassSort {
     Anonymous,
 }
 
-/// A class or an interface (JLS 8, 9): its number in the project, that of the type around it, its members by sort, and the
-/// order in which they are written. The initializers of both parts stand in one list in the order of the text. An anonymous
+/// A class or an interface (JLS 8, 9): the place of the type around it among the classes of the unit, its members by sort, and
+/// the order in which they are written. The initializers of both parts stand in one list in the order of the text. An anonymous
 /// class holds the names of the locals around it that it uses.
 #[derive(Drop)]
 pub struct TClass {
-    pub number: u32,
     pub around: Option<u32>,
     pub first: Position,
     pub name: Name,
