@@ -1,0 +1,3 @@
+pub mod Operators
+pub mod Typing
+pub mod Above

@@ -1,0 +1,4 @@
+pub mod LawsToCite
+mod First
+mod Whole
+mod Rows
