@@ -1,0 +1,10 @@
+pub mod Found
+pub mod Numbers
+pub mod Literals
+pub mod Marks
+pub mod Names
+pub mod Nesting
+pub mod Pieces
+pub mod Cutting
+pub mod Lexing
+pub mod Laws
