@@ -1,0 +1,5 @@
+pub mod Layout
+pub mod Names
+pub mod Parens
+pub mod Roles
+pub mod Shown
