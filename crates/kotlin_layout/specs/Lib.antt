@@ -3,3 +3,4 @@ pub mod Names
 pub mod Parens
 pub mod Roles
 pub mod Shown
+pub mod Text

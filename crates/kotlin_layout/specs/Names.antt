@@ -18,9 +18,16 @@ is_past_ascii byte = nat_lt 127 byte
 abbrev pub is_underscore : ℕ → Bool
 is_underscore byte = nat_eq byte 95
 
--- whether a name stands in backticks: a keyword, one past ASCII, and one of `_` alone
+abbrev pub is_keyword : List ℕ → Bool
+is_keyword n = contains_word hard_keywords n || contains_word other_keywords n
+
+-- a name past ASCII, and one of `_` alone
+abbrev pub is_odd : List ℕ → Bool
+is_odd n = list_any is_past_ascii n || list_all is_underscore n
+
+-- whether a name stands in backticks
 abbrev pub is_quoted : List ℕ → Bool
-is_quoted n = (contains_word hard_keywords n || contains_word other_keywords n) || list_any is_past_ascii n || list_all is_underscore n
+is_quoted n = is_keyword n || is_odd n
 
 unfoldable pub name_text : List ℕ → List ℕ
 name_text n = if is_quoted n then codes "`" ++ n ++ codes "`" else n
@@ -46,10 +53,13 @@ control_text unit =
     if nat_eq unit 10 then codes "\\n" else
     if nat_eq unit 13 then codes "\\r" else codes "\\u" ++ hex_text unit
 
--- A unit, where those for which it says so have a backslash before them.
-abbrev pub unit_text : (ℕ → Bool) → ℕ → List ℕ
-unit_text escaped unit =
-    if is_printable unit then (if escaped unit then 92 ∷ unit ∷ [] else unit ∷ []) else control_text unit
+-- a printable unit, and whether a backslash stands before it
+abbrev pub printable_text : Bool → ℕ → List ℕ
+printable_text true unit = 92 ∷ unit ∷ []
+printable_text false unit = unit ∷ []
+
+abbrev pub unit_text : Bool → ℕ → List ℕ
+unit_text is_escaped unit = if is_printable unit then printable_text is_escaped unit else control_text unit
 
 -- `\` and `'`
 abbrev pub escaped_in_character : ℕ → Bool
@@ -59,11 +69,14 @@ escaped_in_character unit = nat_eq unit 92 || nat_eq unit 39
 abbrev pub escaped_in_string : ℕ → Bool
 escaped_in_string unit = nat_eq unit 92 || nat_eq unit 34 || nat_eq unit 36
 
+abbrev pub string_unit_text : ℕ → List ℕ
+string_unit_text unit = unit_text (escaped_in_string unit) unit
+
 unfoldable pub literal_text : KLiteral → List ℕ
 literal_text (literal.Integer n) = decimal n
 literal_text (literal.Long n) = decimal n ++ codes "L"
-literal_text (literal.Character unit) = codes "'" ++ unit_text escaped_in_character unit ++ codes "'"
-literal_text (literal.Text units) = codes "\"" ++ flat_map (unit_text escaped_in_string) units ++ codes "\""
+literal_text (literal.Character unit) = codes "'" ++ unit_text (escaped_in_character unit) unit ++ codes "'"
+literal_text (literal.Text units) = codes "\"" ++ flat_map string_unit_text units ++ codes "\""
 literal_text literal.True = codes "true"
 literal_text literal.False = codes "false"
 literal_text literal.Null = codes "null"

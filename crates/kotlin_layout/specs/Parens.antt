@@ -182,9 +182,13 @@ behind_left _ = beside.Other
 abbrev pub left_place : KBinary → Place → Place
 left_place o place = record { level = level o; in_list = place.in_list; neighbor = behind_left o }
 
+-- a right operand binds more tightly
+abbrev pub right_level : KBinary → ℕ
+right_level o = level o + 1
+
 -- What stands behind the whole stands behind its right operand.
 abbrev pub right_place : KBinary → Place → Place
-right_place o place = record { level = level o + 1; in_list = place.in_list; neighbor = place.neighbor }
+right_place o place = record { level = right_level o; in_list = place.in_list; neighbor = place.neighbor }
 
 abbrev pub prefix_place : KPrefix → Place → Place
 prefix_place o place = record { level = prefix_level; in_list = place.in_list; neighbor = beside.Prefix o }

@@ -41,6 +41,19 @@ listed between (part ∷ parts) = part ++ more_roles between parts
 abbrev pub comma : Glyphs
 comma = glyph.Mark mark.Comma ∷ glyph.Blank ∷ []
 
+-- `;` and a blank
+abbrev pub next : Glyphs
+next = glyph.Semicolon ∷ glyph.Blank ∷ []
+
+-- a separator, unless it is the first time
+abbrev pub between : Bool → Glyphs → Roles
+between true xs = []
+between false xs = fixed xs
+
+abbrev pub joined : List Roles → Roles
+joined [] = []
+joined (part ∷ parts) = part ++ joined parts
+
 -- each part on a line of its own
 abbrev pub lines : List Roles → Roles
 lines [] = []

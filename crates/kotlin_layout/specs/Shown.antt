@@ -1,10 +1,11 @@
 -- The roles of trees, with parentheses round what doesn't stand where it is.
 use Rattle.std.specs.Prelude.{◌≡◌, ℕ, zero, suc, ◌+◌, nat_eq, Bool, true, false, if◌then◌else◌, List, [], ◌∷◌, ◌++◌, map, Option, Some, None}
-use Rattle.std.specs.List.{flat_map}
 use Rattle.kotlin_tree.specs.declared.tokens.Mark.{Mark}
 use Rattle.kotlin_tree.specs.declared.tokens.Mark.TheVariants as m
 use Rattle.kotlin_tree.specs.declared.tokens.Keyword.TheVariants as k
+use Rattle.kotlin_tree.specs.declared.tokens.Word.{Word}
 use Rattle.kotlin_tree.specs.declared.tokens.Word.TheVariants as w
+use Rattle.kotlin_tree.specs.declared.places.Brackets.{Brackets}
 use Rattle.kotlin_tree.specs.declared.places.Position.{Position}
 use Rattle.kotlin_tree.specs.declared.types.KName.{KName}
 use Rattle.kotlin_tree.specs.declared.types.KDotted.{KDotted}
@@ -19,7 +20,7 @@ use Rattle.kotlin_tree.specs.declared.expressions.KPrefix.TheVariants as prefix
 use Rattle.kotlin_tree.specs.declared.expressions.KPostfix.{KPostfix}
 use Rattle.kotlin_tree.specs.declared.expressions.KPostfix.TheVariants as postfix
 use Rattle.kotlin_tree.specs.declared.expressions.KLambdaNames.{KLambdaNames}
-use Rattle.kotlin_tree.specs.declared.expressions.KExpr.{KExpr, out-KExpr, fold-KExpr}
+use Rattle.kotlin_tree.specs.declared.expressions.KExpr.{KExpr, out-KExpr, map-KExpr, fold-KExpr}
 use Rattle.kotlin_tree.specs.declared.expressions.KExpr.TheOpen.{KExpr-F, KStmt-F, KChoice-F, KBranch-F, KCatch-F}
 use Rattle.kotlin_tree.specs.declared.expressions.KChoice.{KChoice, fold-KChoice}
 use Rattle.kotlin_tree.specs.declared.statements.KVariability.{KVariability}
@@ -58,16 +59,15 @@ use Rattle.kotlin_layout.specs.declared.glyphs.Glyph.{Glyph}
 use Rattle.kotlin_layout.specs.declared.glyphs.Glyph.TheVariants as g
 use Rattle.kotlin_layout.specs.declared.parens.Place.{Place}
 use Rattle.kotlin_layout.specs.Parens.{needs_by, postfix_level, infix_level, is_level, as_level, free_place, list_place, operand_place, left_place, right_place, prefix_place}
-use Rattle.kotlin_layout.specs.Roles.{Role, Roles, Glyphs, fixed, name, listed, comma, lines, opened, closed, block}
+use Rattle.kotlin_layout.specs.Roles.{Role, Roles, Glyphs, fixed, name, listed, comma, next, joined, lines, opened, closed, block}
 
 -- ---- names and types
 
-abbrev pub dotted_roles : List KDotted → Roles
-dotted_roles [] = []
-dotted_roles (x ∷ xs) = fixed (g.Mark m.Dot ∷ []) ++ (name x.name.name ++ dotted_roles xs)
+abbrev pub dotted_roles : KDotted → Roles
+dotted_roles x = fixed (g.Mark m.Dot ∷ []) ++ name x.name.name
 
 abbrev pub qualified_roles : KQualified → Roles
-qualified_roles x = name x.first.name ++ dotted_roles x.rest
+qualified_roles x = name x.first.name ++ joined (map dotted_roles x.rest)
 
 abbrev pub if_there : {A : Type 0} → Option A → Glyphs → Roles
 if_there None xs = []
@@ -142,12 +142,22 @@ has_type = g.Mark m.Colon ∷ g.Blank ∷ []
 abbrev pub headed : Glyph → Roles → Roles
 headed word xs = fixed (word ∷ g.Blank ∷ g.Mark m.OpenRound ∷ []) ++ xs ++ fixed (g.Mark m.CloseRound ∷ [])
 
+-- the head of a `for` as far as `in`
+abbrev pub for_head : KName → Roles
+for_head x = fixed (g.Keyword k.For ∷ g.Blank ∷ g.Mark m.OpenRound ∷ []) ++ name x.name ++ fixed (g.Blank ∷ g.Keyword k.In ∷ g.Blank ∷ [])
+
 abbrev pub else_word : Glyphs
 else_word = g.Blank ∷ g.Keyword k.Else ∷ []
 
 -- the last alternative of a `when`
 abbrev pub else_line : Glyphs
 else_line = g.Line ∷ g.Keyword k.Else ∷ g.Blank ∷ g.Mark m.Arrow ∷ []
+
+abbrev pub else_value : Glyphs
+else_value = g.Line ∷ g.Keyword k.Else ∷ g.Blank ∷ g.Mark m.Arrow ∷ g.Blank ∷ []
+
+abbrev pub class_of : Glyphs
+class_of = g.Mark m.DoubleColon ∷ g.Keyword k.Class ∷ g.Mark m.Dot ∷ g.Word w.Java ∷ []
 
 -- the labels of an alternative of a `when`
 abbrev pub labels : List Roles → Roles
@@ -161,13 +171,12 @@ abbrev pub lambda_names : List KName → Roles
 lambda_names [] = []
 lambda_names (x ∷ xs) = fixed (g.Blank ∷ []) ++ listed comma (map name_of (x ∷ xs)) ++ fixed (g.Blank ∷ g.Mark m.Arrow ∷ [])
 
--- statements on one line
-abbrev pub in_line : List Roles → Roles
-in_line parts = listed (g.Semicolon ∷ g.Blank ∷ []) parts
+-- a comment on lines of its own
+abbrev pub comment_line : List ℕ → Roles
+comment_line x = Role.Comment x ∷ fixed (g.Line ∷ [])
 
 abbrev pub comment_roles : List (List ℕ) → Roles
-comment_roles [] = []
-comment_roles (x ∷ xs) = Role.Comment x ∷ fixed (g.Line ∷ []) ++ comment_roles xs
+comment_roles xs = joined (map comment_line xs)
 
 -- ---- declarations, labels, jumps
 
@@ -220,13 +229,13 @@ bare_by p (KExpr-F.IfValue at condition value else_at other) =
     headed (g.Keyword k.If) (condition free_place) ++ fixed (g.Blank ∷ []) ++ value (operand_place zero p) ++ fixed (g.Blank ∷ g.Keyword k.Else ∷ g.Blank ∷ [])
     ++ other (operand_place zero p)
 bare_by p (KExpr-F.WhenValue at subject curly choices else_at other) =
-    headed (g.Keyword k.When) (subject free_place) ++ fixed opened ++ lines choices ++ fixed (else_line ++ g.Blank ∷ []) ++ other free_place ++ fixed closed
+    headed (g.Keyword k.When) (subject free_place) ++ fixed opened ++ lines choices ++ fixed else_value ++ other free_place ++ fixed closed
 bare_by p (KExpr-F.Lambda face curly names statements) =
     type_roles face ++ fixed (g.Blank ∷ g.Mark m.OpenCurly ∷ []) ++ lambda_names names.items ++ fixed (g.Deeper ∷ []) ++ lines statements ++ fixed closed
 bare_by p (KExpr-F.Run at curly statements) =
-    fixed (g.Word w.Run ∷ g.Blank ∷ g.Mark m.OpenCurly ∷ g.Blank ∷ []) ++ in_line statements ++ fixed (g.Blank ∷ g.Mark m.CloseCurly ∷ [])
+    fixed (g.Word w.Run ∷ g.Blank ∷ g.Mark m.OpenCurly ∷ g.Blank ∷ []) ++ listed next statements ++ fixed (g.Blank ∷ g.Mark m.CloseCurly ∷ [])
 bare_by p (KExpr-F.Class x at) =
-    qualified_roles x ++ fixed (g.Mark m.DoubleColon ∷ g.Keyword k.Class ∷ g.Mark m.Dot ∷ g.Word w.Java ∷ [])
+    qualified_roles x ++ fixed class_of
 
 -- a form, in parentheses where it doesn't stand at the place
 abbrev pub expression_by : KExpr-F Placed Roles Roles Roles Roles → Placed
@@ -243,17 +252,15 @@ statement_by (KStmt-F.While label at condition curly statements) =
 statement_by (KStmt-F.DoWhile label do_at curly statements at condition) =
     label_roles label ++ fixed (g.Keyword k.Do ∷ []) ++ block statements ++ fixed (g.Blank ∷ []) ++ headed (g.Keyword k.While) (condition free_place)
 statement_by (KStmt-F.For label at x in_at values curly statements) =
-    label_roles label ++ headed (g.Keyword k.For) (name x.name ++ fixed (g.Blank ∷ g.Keyword k.In ∷ g.Blank ∷ []) ++ values free_place) ++ block statements
+    label_roles label ++ for_head x ++ values free_place ++ fixed (g.Mark m.CloseRound ∷ []) ++ block statements
 statement_by (KStmt-F.ForRange label at x in_at first until_at end curly statements) =
-    label_roles label
-    ++ headed (g.Keyword k.For) (name x.name ++ fixed (g.Blank ∷ g.Keyword k.In ∷ g.Blank ∷ []) ++ first (operand_place infix_level free_place)
-    ++ fixed (g.Blank ∷ g.Word w.Until ∷ g.Blank ∷ []) ++ end (operand_place (infix_level + 1) free_place))
-    ++ block statements
+    label_roles label ++ for_head x ++ first (operand_place infix_level free_place) ++ fixed (g.Blank ∷ g.Word w.Until ∷ g.Blank ∷ [])
+    ++ end (operand_place (infix_level + 1) free_place) ++ fixed (g.Mark m.CloseRound ∷ []) ++ block statements
 statement_by (KStmt-F.If at condition curly statements) = headed (g.Keyword k.If) (condition free_place) ++ block statements
 statement_by (KStmt-F.IfElse at condition curly statements else_at other_curly others) =
     headed (g.Keyword k.If) (condition free_place) ++ block statements ++ fixed else_word ++ block others
 statement_by (KStmt-F.IfElseIf at condition curly statements else_at other) =
-    headed (g.Keyword k.If) (condition free_place) ++ block statements ++ fixed (else_word ++ g.Blank ∷ []) ++ other
+    headed (g.Keyword k.If) (condition free_place) ++ block statements ++ fixed (g.Blank ∷ g.Keyword k.Else ∷ g.Blank ∷ []) ++ other
 statement_by (KStmt-F.When at subject curly branches else_at other_curly others) =
     headed (g.Keyword k.When) (subject free_place) ++ fixed opened ++ lines branches ++ fixed else_line ++ block others ++ fixed closed
 statement_by (KStmt-F.Break at target) = fixed (g.Keyword k.Break ∷ []) ++ target_roles target
@@ -261,9 +268,9 @@ statement_by (KStmt-F.Continue at target) = fixed (g.Keyword k.Continue ∷ []) 
 statement_by (KStmt-F.Return at target) = fixed (g.Keyword k.Return ∷ []) ++ target_roles target
 statement_by (KStmt-F.Give at target value) = fixed (g.Keyword k.Return ∷ []) ++ target_roles target ++ fixed (g.Blank ∷ []) ++ value free_place
 statement_by (KStmt-F.Throw at value) = fixed (g.Keyword k.Throw ∷ g.Blank ∷ []) ++ value free_place
-statement_by (KStmt-F.Try at curly statements catches) = fixed (g.Keyword k.Try ∷ []) ++ block statements ++ flat_map (λ x. x) catches
+statement_by (KStmt-F.Try at curly statements catches) = fixed (g.Keyword k.Try ∷ []) ++ block statements ++ joined catches
 statement_by (KStmt-F.TryFinally at curly statements catches last_at last) =
-    fixed (g.Keyword k.Try ∷ []) ++ block statements ++ flat_map (λ x. x) catches ++ fixed (g.Blank ∷ g.Word w.Finally ∷ []) ++ block last
+    fixed (g.Keyword k.Try ∷ []) ++ block statements ++ joined catches ++ fixed (g.Blank ∷ g.Word w.Finally ∷ []) ++ block last
 statement_by (KStmt-F.Synchronized at lock curly statements) =
     fixed (g.Word w.SynchronizedBlock ∷ []) ++ in_round (lock free_place) ++ block statements
 
@@ -292,6 +299,11 @@ branch_roles = fold-KBranch Placed Roles Roles Roles Roles expression_by stateme
 unfoldable pub catch_roles : KCatch → Roles
 catch_roles = fold-KCatch Placed Roles Roles Roles Roles expression_by statement_by choice_by branch_by catch_by
 
+-- the form of an expression as it is, at a place
+unfoldable pub bare_roles : Place → KExpr → Roles
+bare_roles p x =
+    bare_by p (map-KExpr KExpr KStmt KChoice KBranch KCatch Placed Roles Roles Roles Roles expression_roles statement_roles choice_roles branch_roles catch_roles (out-KExpr x))
+
 abbrev pub block_roles : KBlock → Roles
 block_roles x = block (map statement_roles x.statements)
 
@@ -309,30 +321,34 @@ rank modifier.Open = 6
 rank modifier.Override = 7
 rank modifier.Const = 8
 
+abbrev pub annotation_glyphs : Word → Glyphs
+annotation_glyphs word = g.Mark m.At ∷ g.Word word ∷ g.Blank ∷ []
+
+abbrev pub word_glyphs : Word → Glyphs
+word_glyphs word = g.Word word ∷ g.Blank ∷ []
+
 abbrev pub modifier_glyphs : KModifierKind → Glyphs
-modifier_glyphs (modifier.JvmStatic at) = g.Mark m.At ∷ g.Word w.JvmStatic ∷ g.Blank ∷ []
-modifier_glyphs (modifier.JvmField at) = g.Mark m.At ∷ g.Word w.JvmField ∷ g.Blank ∷ []
-modifier_glyphs (modifier.Synchronized at) = g.Mark m.At ∷ g.Word w.SynchronizedMethod ∷ g.Blank ∷ []
-modifier_glyphs (modifier.Volatile at) = g.Mark m.At ∷ g.Word w.Volatile ∷ g.Blank ∷ []
-modifier_glyphs modifier.Private = g.Word w.Private ∷ g.Blank ∷ []
-modifier_glyphs modifier.Abstract = g.Word w.Abstract ∷ g.Blank ∷ []
-modifier_glyphs modifier.Open = g.Word w.Open ∷ g.Blank ∷ []
-modifier_glyphs modifier.Override = g.Word w.Override ∷ g.Blank ∷ []
-modifier_glyphs modifier.Const = g.Word w.Const ∷ g.Blank ∷ []
+modifier_glyphs (modifier.JvmStatic at) = annotation_glyphs w.JvmStatic
+modifier_glyphs (modifier.JvmField at) = annotation_glyphs w.JvmField
+modifier_glyphs (modifier.Synchronized at) = annotation_glyphs w.SynchronizedMethod
+modifier_glyphs (modifier.Volatile at) = annotation_glyphs w.Volatile
+modifier_glyphs modifier.Private = word_glyphs w.Private
+modifier_glyphs modifier.Abstract = word_glyphs w.Abstract
+modifier_glyphs modifier.Open = word_glyphs w.Open
+modifier_glyphs modifier.Override = word_glyphs w.Override
+modifier_glyphs modifier.Const = word_glyphs w.Const
 
 abbrev pub if_ranked : ℕ → KModifier → Roles
 if_ranked r x = if nat_eq (rank x.kind) r then fixed (modifier_glyphs x.kind) else []
 
 -- the modifiers of a rank
 abbrev pub ranked : List KModifier → ℕ → Roles
-ranked xs r = flat_map (if_ranked r) xs
-
-abbrev pub ranks : List ℕ
-ranks = 0 ∷ 1 ∷ 2 ∷ 3 ∷ 4 ∷ 5 ∷ 6 ∷ 7 ∷ 8 ∷ []
+ranked xs r = joined (map (if_ranked r) xs)
 
 -- the modifiers in their order, each with a blank behind it
 abbrev pub modifiers_roles : List KModifier → Roles
-modifiers_roles xs = flat_map (ranked xs) ranks
+modifiers_roles xs =
+    ranked xs 0 ++ ranked xs 1 ++ ranked xs 2 ++ ranked xs 3 ++ ranked xs 4 ++ ranked xs 5 ++ ranked xs 6 ++ ranked xs 7 ++ ranked xs 8
 
 abbrev pub param_roles : KParam → Roles
 param_roles x = name x.name.name ++ fixed has_type ++ type_roles x.kind
@@ -394,8 +410,12 @@ abbrev pub type_params_roles : Option KTypeParams → Roles
 type_params_roles None = []
 type_params_roles (Some x) = in_angles (map type_param_roles x.items)
 
+-- the call of the class above, where it stands
+abbrev pub super_call : Option Brackets → Roles
+super_call x = if_there x (g.Mark m.OpenRound ∷ g.Mark m.CloseRound ∷ [])
+
 abbrev pub super_roles : KSuper → Roles
-super_roles x = type_roles x.kind ++ if_there x.round (g.Mark m.OpenRound ∷ g.Mark m.CloseRound ∷ [])
+super_roles x = type_roles x.kind ++ super_call x.round
 
 abbrev pub supers_roles : Option KSupers → Roles
 supers_roles None = []
@@ -412,23 +432,42 @@ class_roles x =
     comment_roles x.comments ++ modifiers_roles x.modifiers ++ fixed (class_words x.word) ++ name x.name.name ++ type_params_roles x.params
     ++ supers_roles x.supers ++ block (map member_roles x.members)
 
--- what a file consists of: the package line, the import lines, each class
-abbrev pub package_roles : Option KPackage → List Roles
-package_roles None = []
-package_roles (Some x) = (fixed (g.Keyword k.Package ∷ g.Blank ∷ []) ++ qualified_roles x.name) ∷ []
+abbrev pub package_line : KPackage → Roles
+package_line x = fixed (g.Keyword k.Package ∷ g.Blank ∷ []) ++ qualified_roles x.name
 
-abbrev pub import_roles : KImport → Roles
-import_roles x = fixed (g.Word w.Import ∷ g.Blank ∷ []) ++ qualified_roles x.name
+abbrev pub import_line : KImport → Roles
+import_line x = fixed (g.Word w.Import ∷ g.Blank ∷ []) ++ qualified_roles x.name ++ fixed (g.Line ∷ [])
 
-abbrev pub imports_roles : List KImport → List Roles
-imports_roles [] = []
-imports_roles (x ∷ xs) = listed (g.Line ∷ []) (map import_roles (x ∷ xs)) ∷ []
+-- the empty line before a part, unless it is the first
+abbrev pub empty_line : Bool → Roles
+empty_line true = []
+empty_line false = fixed (g.Line ∷ [])
 
--- the parts, each with a line end behind it, and an empty line between them
-abbrev pub apart : Bool → List Roles → Roles
-apart first [] = []
-apart true (part ∷ parts) = part ++ fixed (g.Line ∷ []) ++ apart false parts
-apart false (part ∷ parts) = fixed (g.Line ∷ []) ++ part ++ fixed (g.Line ∷ []) ++ apart false parts
+abbrev pub package_part : Option KPackage → Roles
+package_part None = []
+package_part (Some x) = package_line x ++ fixed (g.Line ∷ [])
 
+abbrev pub imports_part : Bool → List KImport → Roles
+imports_part first [] = []
+imports_part first (x ∷ xs) = empty_line first ++ joined (map import_line (x ∷ xs))
+
+abbrev pub class_part : Bool → KClass → Roles
+class_part first x = empty_line first ++ class_roles x ++ fixed (g.Line ∷ [])
+
+abbrev pub classes_part : Bool → List KClass → Roles
+classes_part first [] = []
+classes_part first (x ∷ xs) = class_part first x ++ joined (map (class_part false) xs)
+
+abbrev pub is_absent : {A : Type 0} → Option A → Bool
+is_absent None = true
+is_absent (Some x) = false
+
+-- neither a package line nor an import
+abbrev pub is_headless : Option KPackage → List KImport → Bool
+is_headless None [] = true
+is_headless None (x ∷ xs) = false
+is_headless (Some x) xs = false
+
+-- the package line, the imports and each class, with an empty line between them
 unfoldable pub file_roles : KFile → Roles
-file_roles x = apart true (package_roles x.package ++ imports_roles x.imports ++ map class_roles x.classes)
+file_roles x = package_part x.package ++ imports_part (is_absent x.package) x.imports ++ classes_part (is_headless x.package x.imports) x.classes
