@@ -75,7 +75,7 @@ use Rattle.kotlin_tree.specs.declared.members.KMember.TheVariants as mb
 use Rattle.kotlin_tree.specs.declared.types.KType.{KType, roll-KType, map-KType, fold-roll-KType}
 use Rattle.kotlin_tree.specs.declared.types.KType.TheOpen.{KType-F}
 use Rattle.kotlin_tree.specs.declared.types.KType.TheVariants as ty
-use Rattle.kotlin_layout.specs.Shown.{Placed, above, annotation_glyphs, arguments_roles, assigns, at_place, bare_by, bare_roles, block_roles, body_roles, bound_roles, branch_by, branch_roles, called_word, catch_by, catch_roles, choice_by, choice_roles, class_of, class_part, class_roles, class_words, classes_part, comment_line, comment_roles, declared_roles, delegation_roles, dotted_roles, else_line, else_value, else_word, empty_line, expression_by, expression_roles, file_roles, for_head, has_type, headed, if_ranked, if_there, import_line, imports_part, in_angles, in_round, is_absent, is_headless, label_roles, labels, lambda_names, member_by, member_roles, modifier_glyphs, modifiers_roles, name_of, operator_glyph, package_line, package_part, param_roles, params_roles, postfix_mark, prefix_mark, qualified_roles, rank, ranked, result_roles, setter_roles, statement_by, statement_roles, super_call, super_roles, supers_roles, target_roles, type_arguments_roles, type_by, type_param_roles, type_params_roles, type_roles, value_roles, variability_word, word_glyphs}
+use Rattle.kotlin_layout.specs.Shown.{Placed, above, annotation_glyphs, argument_roles, arguments_roles, assigns, at_place, bare_by, bare_roles, block_roles, body_roles, bound_roles, branch_by, branch_roles, called_word, catch_by, catch_roles, choice_by, choice_roles, class_of, class_part, class_roles, class_words, classes_part, comment_line, comment_roles, declared_roles, delegation_roles, dotted_roles, else_line, else_value, else_word, empty_line, expression_by, expression_roles, file_roles, for_head, has_type, headed, if_ranked, if_there, import_line, imports_part, in_angles, in_round, is_absent, is_headless, label_roles, labels, lambda_names, member_by, member_roles, modifier_glyphs, modifiers_roles, name_of, operator_glyph, package_line, package_part, param_roles, params_roles, postfix_mark, prefix_mark, qualified_roles, rank, ranked, result_roles, setter_roles, statement_by, statement_roles, super_call, super_roles, supers_roles, target_roles, type_arguments_roles, type_by, type_param_roles, type_params_roles, type_roles, value_roles, variability_word, word_glyphs}
 
 bare_rolls : (p : Place) (x : KExpr-F KExpr KStmt KChoice KBranch KCatch) → bare_roles p (roll-KExpr x) ≡ bare_by p (map-KExpr KExpr KStmt KChoice KBranch KCatch Placed Roles Roles Roles Roles expression_roles statement_roles choice_roles branch_roles catch_roles x)
 unfolding bare_roles
@@ -247,13 +247,20 @@ pub ruleset types = (type_Plain, type_Applied)
 
 -- ---- parts
 
-pub choice_is : (x : KChoice) → choice_roles x ≡ labels (map (at_place list_place) (map expression_roles (out-KChoice x).labels)) ++ fixed (g.Blank ∷ []) ++ expression_roles (out-KChoice x).value free_place
-unfolding expression_roles statement_roles choice_roles branch_roles catch_roles
-choice_is x = fold_out-KChoice Placed Roles Roles Roles Roles expression_by statement_by choice_by branch_by catch_by x
+pub placed_map : (xs : List KExpr) → map (at_place list_place) (map expression_roles xs) ≡ map argument_roles xs
+placed_map [] = refl
+placed_map (x ∷ xs) = ap (λ z. argument_roles x ∷ z) (placed_map xs)
 
-pub branch_is : (x : KBranch) → branch_roles x ≡ labels (map (at_place list_place) (map expression_roles (out-KBranch x).labels)) ++ block (map statement_roles (out-KBranch x).statements)
+pub choice_is : (x : KChoice) → choice_roles x ≡ labels (map argument_roles (out-KChoice x).labels) ++ fixed (g.Blank ∷ []) ++ expression_roles (out-KChoice x).value free_place
 unfolding expression_roles statement_roles choice_roles branch_roles catch_roles
-branch_is x = fold_out-KBranch Placed Roles Roles Roles Roles expression_by statement_by choice_by branch_by catch_by x
+choice_is x =
+    fold_out-KChoice Placed Roles Roles Roles Roles expression_by statement_by choice_by branch_by catch_by x
+    ∙ ap (λ z. labels z ++ fixed (g.Blank ∷ []) ++ expression_roles (out-KChoice x).value free_place) (placed_map (out-KChoice x).labels)
+
+pub branch_is : (x : KBranch) → branch_roles x ≡ labels (map argument_roles (out-KBranch x).labels) ++ block (map statement_roles (out-KBranch x).statements)
+unfolding expression_roles statement_roles choice_roles branch_roles catch_roles
+branch_is x =
+    fold_out-KBranch Placed Roles Roles Roles Roles expression_by statement_by choice_by branch_by catch_by x ∙ ap (λ z. labels z ++ block (map statement_roles (out-KBranch x).statements)) (placed_map (out-KBranch x).labels)
 
 pub catch_is : (x : KCatch) → catch_roles x ≡ fixed (g.Blank ∷ []) ++ headed (g.Word w.Catch) (name (out-KCatch x).name.name ++ fixed has_type ++ type_roles (out-KCatch x).kind) ++ block (map statement_roles (out-KCatch x).statements)
 unfolding expression_roles statement_roles choice_roles branch_roles catch_roles

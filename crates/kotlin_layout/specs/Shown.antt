@@ -304,6 +304,10 @@ unfoldable pub bare_roles : Place → KExpr → Roles
 bare_roles p x =
     bare_by p (map-KExpr KExpr KStmt KChoice KBranch KCatch Placed Roles Roles Roles Roles expression_roles statement_roles choice_roles branch_roles catch_roles (out-KExpr x))
 
+-- an expression between commas
+abbrev pub argument_roles : KExpr → Roles
+argument_roles x = expression_roles x list_place
+
 abbrev pub block_roles : KBlock → Roles
 block_roles x = block (map statement_roles x.statements)
 
