@@ -7,6 +7,7 @@ mod files;
 mod members;
 mod places;
 mod statements;
+mod tokens;
 mod types;
 
 pub use comments::Comments;
@@ -25,4 +26,5 @@ pub use places::{Brackets, Position};
 pub use statements::{
     KBlock, KBranch, KCatch, KDeclared, KFinallyAt, KLabel, KStmt, KTarget, KVariability,
 };
+pub use tokens::{Gap, KToken, KTokens, Keyword, Mark, TokenKind, Word};
 pub use types::{KDotted, KName, KQualified, KType, KTypeArguments};

@@ -10,7 +10,7 @@ pub struct Position {
 }
 
 /// Where `(` and `)` stand, or `[` and `]`, or `<` and `>`, or `{` and `}`.
-#[derive(Clone, Copy)]
+#[derive(Clone, Copy, Debug, PartialEq, Eq)]
 pub struct Brackets {
     pub opens: Position,
     pub closes: Position,
