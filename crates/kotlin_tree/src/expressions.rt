@@ -173,7 +173,7 @@ pub enum KExpr {
         right: Boxed<KExpr>,
     },
     /// `if`, `(`, the condition, `)`, the one value, `else`, the other.
-    If {
+    IfValue {
         at: KHeadAt,
         condition: Boxed<KExpr>,
         value: Boxed<KExpr>,
@@ -181,7 +181,7 @@ pub enum KExpr {
         other: Boxed<KExpr>,
     },
     /// `when`, `(`, the subject, `)`, `{`, the alternatives, `else`, `->`, the other value, `}`.
-    When {
+    WhenValue {
         at: KHeadAt,
         subject: Boxed<KExpr>,
         curly: Brackets,
