@@ -310,7 +310,7 @@ form_code f.Nullable = 92
 form_code f.TypeArguments = 93
 form_code f.MoreTypes = 94
 
-pub ways : List Way
+unfoldable pub ways : List Way
 ways = w.FilePackage ∷ w.FileBare ∷ w.AfterLineMore ∷ w.AfterLineEnd ∷ w.LinesImport ∷ w.LinesClass ∷ w.LinesEnd ∷ w.QualifiedName ∷ w.QualifiedDot ∷ w.QualifiedEnd ∷ w.ClassWhole ∷ w.ClassPlain ∷ w.ClassFun ∷ w.ModifiersWord ∷ w.ModifiersAt ∷ w.ModifiersEnd ∷ w.TypeParamsSome ∷ w.TypeParamsNone ∷ w.TypeParamOne ∷ w.TypeParamsMore ∷ w.TypeParamsEnd ∷ w.SupersSome ∷ w.SupersNone ∷ w.SuperOne ∷ w.SuperCalled ∷ w.SuperPlain ∷ w.SupersMore ∷ w.SupersEnd ∷ w.TypedSome ∷ w.TypedNone ∷ w.MembersSome ∷ w.MembersEnds ∷ w.MembersNone ∷ w.MembersMore ∷ w.MembersEnd ∷ w.NextMemberSome ∷ w.NextMemberNone ∷ w.MemberInit ∷ w.MemberCompanion ∷ w.MemberModified ∷ w.ModifiedProperty ∷ w.ModifiedFunction ∷ w.ModifiedConstructor ∷ w.DeclaredName ∷ w.ValueSome ∷ w.ValueNone ∷ w.SetterSome ∷ w.SetterNone ∷ w.ParamsWhole ∷ w.ParamsSome ∷ w.ParamsNone ∷ w.ParamOne ∷ w.ParamsMore ∷ w.ParamsEnd ∷ w.BodySome ∷ w.BodyNone ∷ w.DelegationSome ∷ w.DelegationNone ∷ w.BlockWhole ∷ w.StatementsSome ∷ w.StatementsEnds ∷ w.StatementsNone ∷ w.StatementsMore ∷ w.StatementsEnd ∷ w.NextStatementSome ∷ w.NextStatementNone ∷ w.StatementLocal ∷ w.StatementLabelled ∷ w.StatementLoop ∷ w.StatementIf ∷ w.StatementWhen ∷ w.StatementBreak ∷ w.StatementContinue ∷ w.StatementReturn ∷ w.StatementThrow ∷ w.StatementTry ∷ w.StatementSynchronized ∷ w.StatementPrefix ∷ w.StatementPlain ∷ w.LocalSome ∷ w.LocalNone ∷ w.LoopWhile ∷ w.LoopDo ∷ w.LoopFor ∷ w.ForRange ∷ w.ForEach ∷ w.IfBlock ∷ w.IfValue ∷ w.ElseSome ∷ w.ElseNone ∷ w.ElseBlock ∷ w.ElseIf ∷ w.FirstElse ∷ w.FirstNext ∷ w.FirstBranch ∷ w.FirstChoice ∷ w.FirstElseBranch ∷ w.FirstElseChoice ∷ w.BranchElse ∷ w.BranchNext ∷ w.ChoiceElse ∷ w.ChoiceNext ∷ w.LabelsSome ∷ w.OptionalEndsSome ∷ w.OptionalEndsNone ∷ w.TargetSome ∷ w.TargetNone ∷ w.GivenSome ∷ w.GivenNone ∷ w.CatchesSome ∷ w.CatchesEnd ∷ w.FinallySome ∷ w.FinallyNone ∷ w.TailsAll ∷ w.StoreSome ∷ w.StoreNone ∷ w.ExprIf ∷ w.ExprOr ∷ w.OrWhole ∷ w.OrMore ∷ w.OrEnd ∷ w.AndWhole ∷ w.AndMore ∷ w.AndEnd ∷ w.EqualWhole ∷ w.EqualMore ∷ w.EqualEnd ∷ w.CompareWhole ∷ w.CompareMore ∷ w.CompareEnd ∷ w.IsWhole ∷ w.IsMore ∷ w.IsEnd ∷ w.InfixWhole ∷ w.InfixMore ∷ w.InfixEnd ∷ w.SumWhole ∷ w.SumMore ∷ w.SumEnd ∷ w.ProductWhole ∷ w.ProductMore ∷ w.ProductEnd ∷ w.CastWhole ∷ w.CastMore ∷ w.CastEnd ∷ w.PrefixedMark ∷ w.PrefixedOperand ∷ w.OperandWhen ∷ w.OperandPlain ∷ w.PlainLiteral ∷ w.PlainThis ∷ w.PlainSuper ∷ w.PlainParen ∷ w.PlainRun ∷ w.PlainNamed ∷ w.PlainGeneric ∷ w.NamedCall ∷ w.NamedOnly ∷ w.GenericCall ∷ w.GenericLambda ∷ w.SuffixDot ∷ w.SuffixIndex ∷ w.SuffixMark ∷ w.SuffixNullable ∷ w.SuffixLambda ∷ w.SuffixNamedLambda ∷ w.SuffixClass ∷ w.SuffixesEnd ∷ w.DotNamed ∷ w.DotGeneric ∷ w.DottedCall ∷ w.DottedOnly ∷ w.DottedGenericCall ∷ w.DottedGenericLambda ∷ w.FacedNullable ∷ w.FacedPlain ∷ w.LambdaPlain ∷ w.LambdaNamed ∷ w.NamesSome ∷ w.NamesNone ∷ w.NamesMore ∷ w.NamesEnd ∷ w.ArgsSome ∷ w.ArgsNone ∷ w.ExprsMore ∷ w.ExprsEnd ∷ w.TypeWhole ∷ w.PathPlain ∷ w.PathApplied ∷ w.PathDot ∷ w.PathEnd ∷ w.NextPlain ∷ w.NextApplied ∷ w.NullableSome ∷ w.NullableNone ∷ w.TypeArgumentsWhole ∷ w.TypesMore ∷ w.TypesEnd ∷ []
 
 pub way_at : (x : Way) → get_or ways (way_code x) w.FilePackage ≡ x
@@ -514,7 +514,7 @@ way_at w.TypeArgumentsWhole = refl
 way_at w.TypesMore = refl
 way_at w.TypesEnd = refl
 
-pub forms : List Form
+unfoldable pub forms : List Form
 forms = f.FileHead ∷ f.AfterLine ∷ f.Lines ∷ f.Qualified ∷ f.QualifiedMore ∷ f.ClassForm ∷ f.ClassWord ∷ f.Modifiers ∷ f.TypeParams ∷ f.TypeParam ∷ f.MoreTypeParams ∷ f.Supers ∷ f.Super ∷ f.SuperRound ∷ f.MoreSupers ∷ f.Typed ∷ f.Members ∷ f.MoreMembers ∷ f.NextMember ∷ f.Member ∷ f.Modified ∷ f.Declared ∷ f.Value ∷ f.Setter ∷ f.Params ∷ f.ParamList ∷ f.Param ∷ f.MoreParams ∷ f.Body ∷ f.Delegation ∷ f.Block ∷ f.Statements ∷ f.MoreStatements ∷ f.NextStatement ∷ f.Statement ∷ f.LocalValue ∷ f.Loop ∷ f.ForRest ∷ f.IfRest ∷ f.ElseRest ∷ f.ElseBody ∷ f.FirstCase ∷ f.FirstBody ∷ f.FirstElseBody ∷ f.Branches ∷ f.Choices ∷ f.Labels ∷ f.OptionalEnds ∷ f.Target ∷ f.Given ∷ f.Catches ∷ f.Finally ∷ f.Tails ∷ f.Store ∷ f.Expr ∷ f.Or ∷ f.OrTail ∷ f.And ∷ f.AndTail ∷ f.Equal ∷ f.EqualTail ∷ f.Comparison ∷ f.CompareTail ∷ f.IsForm ∷ f.IsTail ∷ f.Infix ∷ f.InfixTail ∷ f.Sum ∷ f.SumTail ∷ f.Product ∷ f.ProductTail ∷ f.Cast ∷ f.CastTail ∷ f.Prefixed ∷ f.Operand ∷ f.Plain ∷ f.Named ∷ f.Generic ∷ f.Suffixes ∷ f.AfterDot ∷ f.Dotted ∷ f.DottedGeneric ∷ f.Faced ∷ f.Lambda ∷ f.Names ∷ f.MoreNames ∷ f.Args ∷ f.MoreExprs ∷ f.Type ∷ f.TypePath ∷ f.PathMore ∷ f.PathNext ∷ f.Nullable ∷ f.TypeArguments ∷ f.MoreTypes ∷ []
 
 pub form_at : (x : Form) → get_or forms (form_code x) f.FileHead ≡ x
@@ -615,7 +615,7 @@ form_at f.Nullable = refl
 form_at f.TypeArguments = refl
 form_at f.MoreTypes = refl
 
-pub kinds : List Kind
+unfoldable pub kinds : List Kind
 kinds = k.End ∷ k.Broken ∷ k.BrokenWhile ∷ k.BrokenSet ∷ k.Name ∷ k.NameArguments ∷ k.NameLess ∷ k.Label ∷ k.LabelModifier ∷ k.LabelAnnotation ∷ k.InfixWord ∷ k.UntilWord ∷ k.CompanionWord ∷ k.InitWord ∷ k.ConstructorWord ∷ k.SetWord ∷ k.JavaWord ∷ k.ImportWord ∷ k.PrivateWord ∷ k.PrivateSet ∷ k.ModifierWord ∷ k.AnnotationWord ∷ k.RunBlock ∷ k.SynchronizedBlock ∷ k.Catch ∷ k.FinallyWord ∷ k.Literal ∷ k.As ∷ k.Break ∷ k.Class ∷ k.Continue ∷ k.Do ∷ k.Else ∷ k.ElseArrow ∷ k.For ∷ k.Fun ∷ k.If ∷ k.In ∷ k.Interface ∷ k.Is ∷ k.Object ∷ k.Package ∷ k.Return ∷ k.SuperWord ∷ k.This ∷ k.Throw ∷ k.Try ∷ k.Val ∷ k.Var ∷ k.When ∷ k.While ∷ k.Unused ∷ k.OpenRound ∷ k.CloseRound ∷ k.OpenSquare ∷ k.CloseSquare ∷ k.OpenCurly ∷ k.OpenParameters ∷ k.CloseCurly ∷ k.Comma ∷ k.Dot ∷ k.At ∷ k.Question ∷ k.Colon ∷ k.DoubleColon ∷ k.Assign ∷ k.Equality ∷ k.Not ∷ k.NotNull ∷ k.Sign ∷ k.Step ∷ k.Arrow ∷ k.Times ∷ k.AndAnd ∷ k.OrOr ∷ k.Less ∷ k.Greater ∷ k.Compare ∷ []
 
 pub kind_at : (x : Kind) → get_or kinds (code x) k.End ≡ x

@@ -1,7 +1,7 @@
 // The letters of the grammar: kinds of tokens, terminals, forms, ways to write them, and actions.
 
 /// What a token is, as far as a choice depends on it, with what stands behind it taken in.
-#[derive(Clone, Copy, Debug, PartialEq, Eq)]
+#[derive(Clone, Copy)]
 pub enum Kind {
     /// No token.
     End,
@@ -109,7 +109,7 @@ pub enum Kind {
 }
 
 /// The tokens that a form takes at a place.
-#[derive(Clone, Copy, Debug, PartialEq, Eq)]
+#[derive(Clone, Copy)]
 pub enum Term {
     /// One of the kind.
     Only(Kind),
@@ -156,7 +156,7 @@ pub enum Term {
 }
 
 /// A form of the grammar.
-#[derive(Clone, Copy, Debug, PartialEq, Eq)]
+#[derive(Clone, Copy)]
 pub enum Form {
     FileHead,
     AfterLine,
@@ -256,7 +256,7 @@ pub enum Form {
 }
 
 /// What is built of the parts before it.
-#[derive(Clone, Copy, Debug, PartialEq, Eq)]
+#[derive(Clone, Copy)]
 pub enum Act {
     Package,
     NoImports,
@@ -373,7 +373,7 @@ pub enum Act {
 }
 
 /// A way to write a form.
-#[derive(Clone, Copy, Debug, PartialEq, Eq)]
+#[derive(Clone, Copy)]
 pub enum Way {
     FilePackage,
     FileBare,

@@ -1,0 +1,5 @@
+pub mod FirstAndFollowing
+pub mod Lists
+pub mod Decided
+pub mod Taken
+pub mod LawsToCite
