@@ -448,11 +448,11 @@ rs = '// The tables of the grammar as the machine asks for them.\n\n'
 rs += 'ghost use Rattle.std.specs.Prelude.{◌≡◌, true, false};\n'
 rs += f'ghost use {PACK}.specs.Table.{{accepts as accepts_of, blank_after as blank_after_of, is_end as is_end_of, written as written_of, code as code_of}};\n'
 rs += f'ghost use {PACK}.specs.Choice as choice;\nghost use {PACK}.specs.declared.letters.Term.TheVariants as t;\n\n'
-rs += 'use crate::letters::{Act, Form, Kind, Term, Way};\nuse grammar::Symbol;\n\n'
+rs += 'use grammar::Symbol;\nuse kotlin_grammar::{Act, Form, Kind, Term, Way};\n\n'
 rs += '/// The number of a kind.\nfn code(kind: Kind) -> u8\n    ensures { result ≡ code_of kind }\n{\n    match kind {\n' + ''.join(f'        Kind::{k} => {i},\n' for i, k in enumerate(KINDS)) + '    }\n}\n\n'
 for s in SET_NAMES:
-    rs += f'#[tactic(auto, unfolding(crate::specs::Table::accepts))]\nfn is_{snake(s)}(kind: Kind) -> bool\n    ensures {{ result ≡ accepts_of t.{s} kind }}\n{{\n    match kind {{\n' + ''.join(f'        Kind::{k} => true,\n' for k in KINDS if k in SETS[s]) + '        _ => false,\n    }\n}\n\n'
-rs += '/// Whether the terminal takes a token of the kind.\n#[tactic(auto, unfolding(crate::specs::Table::accepts))]\npub fn accepts(term: Term, kind: Kind) -> bool\n    ensures { result ≡ accepts_of term kind }\n{\n    match term {\n        Term::Only(only) => code(only) == code(kind),\n'
+    rs += f'#[tactic(auto, unfolding(kotlin_grammar::specs::Table::accepts))]\nfn is_{snake(s)}(kind: Kind) -> bool\n    ensures {{ result ≡ accepts_of t.{s} kind }}\n{{\n    match kind {{\n' + ''.join(f'        Kind::{k} => true,\n' for k in KINDS if k in SETS[s]) + '        _ => false,\n    }\n}\n\n'
+rs += '/// Whether the terminal takes a token of the kind.\n#[tactic(auto, unfolding(kotlin_grammar::specs::Table::accepts))]\npub fn accepts(term: Term, kind: Kind) -> bool\n    ensures { result ≡ accepts_of term kind }\n{\n    match term {\n        Term::Only(only) => code(only) == code(kind),\n'
 rs += ''.join(f'        Term::{s} => is_{snake(s)}(kind),\n' for s in SET_NAMES) + '    }\n}\n\n'
 blank_kinds = [k for k in KINDS if k in BLANK_AFTER and k not in SETS]
 rs += '/// Whether a line end behind the token is a blank.\npub fn blank_after(term: Term) -> bool\n    ensures { result ≡ blank_after_of term }\n{\n    match term {\n'
@@ -462,12 +462,12 @@ for f in FORMS:
     d, tab = choose[f]
     if tab:
         rs += f'fn choose_{snake(f)}(kind: Kind) -> Way\n    ensures {{ result ≡ choice.choose_{snake(f)} kind }}\n{{\n    match kind {{\n' + ''.join(f'        Kind::{k} => Way::{tab[k]},\n' for k in KINDS if k in tab) + f'        _ => Way::{d},\n    }}\n}}\n\n'
-rs += '/// The way to write the form that stands ahead of a token of the kind.\n#[tactic(auto, unfolding(crate::specs::Choice::choose))]\npub fn choose(form: Form, kind: Kind) -> Way\n    ensures { result ≡ choice.choose form kind }\n{\n    match form {\n'
+rs += '/// The way to write the form that stands ahead of a token of the kind.\n#[tactic(auto, unfolding(kotlin_grammar::specs::Choice::choose))]\npub fn choose(form: Form, kind: Kind) -> Way\n    ensures { result ≡ choice.choose form kind }\n{\n    match form {\n'
 for f in FORMS:
     d, tab = choose[f]
     rs += f'        Form::{f} => ' + (f'choose_{snake(f)}(kind)' if tab else f'Way::{d}') + ',\n'
-rs += "    }\n}\n\n/// How the form is written.\n#[tactic(auto, unfolding(crate::specs::Table::written))]\npub fn written(way: Way) -> &'static [Symbol<Term, Form, Act>]\n    ensures { result.now ≡ written_of way }\n{\n    match way {\n"
+rs += "    }\n}\n\n/// How the form is written.\n#[tactic(auto, unfolding(kotlin_grammar::specs::Table::written))]\npub fn written(way: Way) -> &'static [Symbol<Term, Form, Act>]\n    ensures { result.now ≡ written_of way }\n{\n    match way {\n"
 for way, form, syms in WAYS:
     rs += f'        Way::{way} => &[' + ', '.join(rust_symbol(s) for s in syms) + '],\n'
 rs += '    }\n}\n'
-put('src/table.rt', rs)
+put('../kotlin_tables/src/table.rt', rs)

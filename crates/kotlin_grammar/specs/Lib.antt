@@ -3,3 +3,8 @@ pub mod Choice
 pub mod Ahead
 pub mod Taking
 pub mod Kotlin
+pub mod Parts
+pub mod Meaning
+pub mod Build
+pub mod Depth
+pub mod Reading

@@ -1,0 +1,20 @@
+// How deep what an action builds is.
+
+/// What is made of the depth of parts.
+#[derive(Clone, Copy)]
+pub enum Level {
+    /// It is as deep as they are.
+    Same,
+    /// It is one deeper.
+    Deeper,
+    /// It has no depth.
+    Gone,
+}
+
+/// Of so many parts the depth counts, of so many below them it doesn't.
+#[derive(Clone, Copy)]
+pub struct Levels {
+    pub parts: usize,
+    pub under: usize,
+    pub level: Level,
+}
