@@ -450,25 +450,41 @@ an += tree_uses(body) + body
 put('kotlin_grammar', 'specs/Build.antt', an)
 
 an = '-- How deep the parts are. A type, an expression, a statement, a block, a line of a `when` and a `catch` are one deeper than the deepest of\n-- their parts; a list is as deep as the deepest of its items.\n'
-an += 'use Rattle.std.specs.Prelude.{ℕ, zero, suc, max, nat_lt, Bool, true, false, if◌then◌else◌, List, [], ◌∷◌, Option, Some, None}\nuse Rattle.grammar.specs.Machine.{◌>>=◌}\n'
+an += 'use Rattle.std.specs.Prelude.{ℕ, suc, max, nat_lt, Bool, true, false, if◌then◌else◌, List, [], ◌∷◌, Option, Some, None}\nuse Rattle.grammar.specs.Machine.{◌>>=◌}\n'
 an += f'use {GRAMMAR}.specs.declared.letters.Act.{{Act}}\nuse {GRAMMAR}.specs.declared.letters.Act.TheVariants as a\nuse {GRAMMAR}.specs.declared.built.Built.{{Built}}\n'
-an += f'use {GRAMMAR}.specs.declared.levels.Levels.{{Levels}}\nuse {GRAMMAR}.specs.declared.levels.Level.{{Level}}\nuse {GRAMMAR}.specs.declared.levels.Level.TheVariants as v\nuse {GRAMMAR}.specs.Build.{{build}}\n'
-an += '''
--- of so many parts the depth counts, of so many below them it doesn't, and what is made of them
-abbrev levels_by : ℕ → ℕ → Level → Levels
+for n, al in (('Levels', None), ('Level', 'v'), ('Parts', 'n')):
+    an += f'use {GRAMMAR}.specs.declared.levels.{n}.{{{n}}}\n' + (f'use {GRAMMAR}.specs.declared.levels.{n}.TheVariants as {al}\n' if al else '')
+an += f'use {GRAMMAR}.specs.Build.{{build}}\n'
+NUMBER = ['Zero', 'One', 'Two', 'Three']
+an += """
+abbrev pub levels_by : Parts → Parts → Level → Levels
 levels_by parts under level = record { parts = parts; under = under; level = level }
 
+-- of how many parts the depth counts, of how many below them it doesn't, and what is made of them
 unfoldable pub levels : Act → Levels
-''' + ''.join(f'levels a.{a} = levels_by {LEVELS[a][1]} {LEVELS[a][2]} v.{LEVELS[a][0]}\n' for a in T.ACTS if a in LEVELS) + '''levels _ = levels_by 0 0 v.Gone
+""" + ''.join(f'levels a.{a} = levels_by n.{NUMBER[int(LEVELS[a][1])]} n.{NUMBER[int(LEVELS[a][2])]} v.{LEVELS[a][0]}\n' for a in T.ACTS if a in LEVELS) + """levels _ = levels_by n.Zero n.Zero v.Gone
 
 -- the deepest tree that is read
 abbrev pub max_depth : ℕ
 max_depth = 1600
 
-abbrev pub deepest : ℕ → List ℕ → Option (ℕ × List ℕ)
-deepest zero ds = Some (0, ds)
-deepest (suc n) [] = None
-deepest (suc n) (d ∷ ds) = deepest n ds >>= λ x. Some (max d x.0, x.1)
+abbrev pub last_depth : List ℕ → Option (ℕ × List ℕ)
+last_depth [] = None
+last_depth (d ∷ ds) = Some (d, ds)
+
+-- the depth of the deepest of so many
+unfoldable pub deepest : Parts → List ℕ → Option (ℕ × List ℕ)
+deepest n.Zero ds = Some (0, ds)
+deepest n.One ds = last_depth ds
+deepest n.Two ds = do
+  x ← last_depth ds
+  y ← last_depth x.1
+  Some (max x.0 y.0, y.1)
+deepest n.Three ds = do
+  x ← last_depth ds
+  y ← last_depth x.1
+  z ← last_depth y.1
+  Some (max (max x.0 y.0) z.0, z.1)
 
 abbrev pub leveled : Level → ℕ → List ℕ → Option (List ℕ)
 leveled v.Same d ds = Some (d ∷ ds)
@@ -477,18 +493,27 @@ leveled v.Gone d ds = Some ds
 
 abbrev pub measured : Levels → List ℕ → Option (List ℕ)
 measured l ds = do
-  of ← deepest l.parts ds
-  under ← deepest l.under of.1
-  leveled l.level of.0 under.1
+  depth ← deepest l.parts ds
+  under ← deepest l.under depth.1
+  leveled l.level depth.0 under.1
 
 -- What an action builds, where its parts are those that it wants and no deeper tree than is read.
 unfoldable pub acts : Act → Built → Option Built
 acts a b = do
   ds ← measured (levels a) b.depths
   build a (record b { depths = ds })
-'''
+"""
 put('kotlin_grammar', 'specs/Depth.antt', an)
-put('kotlin_grammar', 'src/levels.rt', '''// How deep what an action builds is.
+put('kotlin_grammar', 'src/levels.rt', """// How deep what an action builds is.
+
+/// How many parts.
+#[derive(Clone, Copy)]
+pub enum Parts {
+    Zero,
+    One,
+    Two,
+    Three,
+}
 
 /// What is made of the depth of parts.
 #[derive(Clone, Copy)]
@@ -504,11 +529,11 @@ pub enum Level {
 /// Of so many parts the depth counts, of so many below them it doesn't.
 #[derive(Clone, Copy)]
 pub struct Levels {
-    pub parts: usize,
-    pub under: usize,
+    pub parts: Parts,
+    pub under: Parts,
     pub level: Level,
 }
-''')
+""")
 
 # ---- the code of the parts
 rs = '// The last part of each type, and one more.\n\nghost use Rattle.std.specs.Prelude.{OnOk, ◌≡◌};\nghost use Rattle.kotlin_grammar.specs.Parts as b;\nghost use Rattle.kotlin_parts.specs.Popping.{Pops};\n\nuse kotlin_grammar::{Built, ClassHead};\nuse kotlin_tree::{Brackets, KHeadAt, '
@@ -554,10 +579,25 @@ rs += '\n/// Builds, and answers whether the parts are those that the action wan
 for a in T.ACTS:
     rs += f'        Act::{a} => {code[a][1]}({"alloc, " if code[a][2] else ""}built),\n'
 rs += '    }\n}\n'
-open('/tmp/build_dispatch.rt', 'w').write(rs)
+dispatch = rs
 rs = '/// How deep what the action builds is.\n#[tactic(auto, unfolding(kotlin_grammar::specs::Depth::levels))]\nfn levels(act: Act) -> Levels\n    ensures { result ≡ levels_of act }\n{\n    match act {\n'
 for a in T.ACTS:
     if a in LEVELS:
-        rs += f'        Act::{a} => levels_by({LEVELS[a][1]}, {LEVELS[a][2]}, Level::{LEVELS[a][0]}),\n'
-rs += '        _ => levels_by(0, 0, Level::Gone),\n    }\n}\n'
-open('/tmp/levels_code.rt', 'w').write(rs)
+        rs += f'        Act::{a} => levels_by(Parts::{NUMBER[int(LEVELS[a][1])]}, Parts::{NUMBER[int(LEVELS[a][2])]}, Level::{LEVELS[a][0]}),\n'
+rs += '        _ => levels_by(Parts::Zero, Parts::Zero, Level::Gone),\n    }\n}\n'
+levels_code = rs
+
+rs = "// What an action does.\n\nghost use Rattle.std.specs.Prelude.{◌≡◌, IfOk};\nghost use Rattle.kotlin_grammar.specs.Depth.{levels as levels_of};\nghost use Rattle.kotlin_parts.specs.Popping.{Builds};\nghost use Rattle.kotlin_machine.specs.Steps.{Acts};\n\nuse crate::depths::{levels_by, measure};\nuse j2k_base::NoMemory;\nuse kotlin_grammar::{Act, Built, Level, Levels, Parts};\n" + dispatch.replace('\n/// Builds', 'use std::alloc::Global;\n\n/// Builds', 1) + "\n" + levels_code + """
+/// Measures and builds, and answers whether the action may.
+#[tactic(auto, unfolding(kotlin_grammar::specs::Depth::acts))]
+pub fn act(alloc: Global, act: Act, built: &mut Built) -> Result<bool, NoMemory>
+    ensures { IfOk result (Acts act built.old built.new) }
+{
+    if measure(built, levels(act))? {
+        build(alloc, act, built)
+    } else {
+        Ok(false)
+    }
+}
+"""
+put('kotlin_machine', 'src/acting.rt', rs)

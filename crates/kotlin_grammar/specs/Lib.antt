@@ -8,3 +8,4 @@ pub mod Meaning
 pub mod Build
 pub mod Depth
 pub mod Reading
+pub mod Files

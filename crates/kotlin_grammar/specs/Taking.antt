@@ -1,5 +1,5 @@
 -- What a terminal takes of the tokens.
-use Rattle.std.specs.Prelude.{◌≡◌, ℕ, ◌+◌, Bool, true, false, if◌then◌else◌, List, [], ◌∷◌, Option, Some, None}
+use Rattle.std.specs.Prelude.{◌≡◌, ℕ, ◌+◌, Bool, true, false, if◌then◌else◌, List, [], ◌∷◌, slice_get, Option, Some, None}
 use Rattle.kotlin_tree.specs.declared.tokens.Gap.{Gap}
 use Rattle.kotlin_tree.specs.declared.tokens.Gap.TheVariants as gap
 use Rattle.kotlin_tree.specs.declared.tokens.KToken.{KToken}
@@ -22,9 +22,12 @@ kind_behind gap.Line c = broken c
 kind_behind gap.Semicolon c = k.Broken
 
 -- the kind of what stands first
+abbrev pub kind_by : Option Letter → Kind
+kind_by None = k.End
+kind_by (Some l) = kind_behind l.token.gap l.kind
+
 abbrev pub kind : Letters → Kind
-kind [] = k.End
-kind (l ∷ ls) = kind_behind l.token.gap l.kind
+kind ls = kind_by (slice_get ls 0)
 
 abbrev pub behind : Gap → Letter → Letter
 behind g l = record { kind = l.kind; token = with_gap g l.token }

@@ -2,7 +2,10 @@
 
 use grammar::Stack;
 use kotlin_tree::{
-    KBlock, KBranch, KCatch, KChoice, KClass, KDeclared, KDelegation, KExpr, KImport, KLabel, KLambdaNames, KMember, KModifier, KName, KPackage, KParam, KParams, KPrivateSet, KQualified, KStmt, KSuper, KSupers, KTarget, KToken, KType, KTypeArguments, KTypeParam, KTypeParams, KTyped, KValue, Position, KClassWord,
+    KBlock, KBranch, KCatch, KChoice, KClass, KClassWord, KDeclared, KDelegation, KExpr, KImport,
+    KLabel, KLambdaNames, KMember, KModifier, KName, KPackage, KParam, KParams, KPrivateSet,
+    KQualified, KStmt, KSuper, KSupers, KTarget, KToken, KType, KTypeArguments, KTypeParam,
+    KTypeParams, KTyped, KValue, Position,
 };
 use sqlite_items::{Boxed, Items};
 

@@ -1,5 +1,14 @@
 // How deep what an action builds is.
 
+/// How many parts.
+#[derive(Clone, Copy)]
+pub enum Parts {
+    Zero,
+    One,
+    Two,
+    Three,
+}
+
 /// What is made of the depth of parts.
 #[derive(Clone, Copy)]
 pub enum Level {
@@ -14,7 +23,7 @@ pub enum Level {
 /// Of so many parts the depth counts, of so many below them it doesn't.
 #[derive(Clone, Copy)]
 pub struct Levels {
-    pub parts: usize,
-    pub under: usize,
+    pub parts: Parts,
+    pub under: Parts,
     pub level: Level,
 }

@@ -10,4 +10,4 @@ mod levels;
 pub use ahead::{Letter, Spot, Step};
 pub use built::{Built, ClassHead};
 pub use letters::{Act, Form, Kind, Term, Way};
-pub use levels::{Level, Levels};
+pub use levels::{Level, Levels, Parts};
