@@ -108,3 +108,13 @@ unfoldable pub flaw_of : List Tokens → Option Position
 flaw_of [] = None
 flaw_of ([] ∷ ps) = flaw_of ps
 flaw_of ((t ∷ ts) ∷ ps) = flaw_by (class_of (apart (t ∷ ts))) t.position (flaw_of ps)
+
+abbrev pub head_flaw : Option Head → Tokens → Option Position → Option Position
+head_flaw None [] more = more
+head_flaw None (t ∷ ts) more = Some t.position
+head_flaw (Some h) p more = more
+
+-- where the first piece stands that nothing spells
+unfoldable pub first_flaw : List Tokens → Option Position
+first_flaw [] = None
+first_flaw (p ∷ ps) = head_flaw (first_of (begun p)) p (flaw_of ps)

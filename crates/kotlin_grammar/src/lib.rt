@@ -4,6 +4,7 @@
 
 mod ahead;
 mod built;
+pub mod laws;
 mod letters;
 mod levels;
 
