@@ -22,7 +22,7 @@ def java_files(folder):
 def measure(top, folder, files, size, layout):
     source = os.path.join(folder, "src")
     subprocess.run([sys.executable, os.path.join(top, "bench/convert/generate.py"), source, files, size, layout], check=True)
-    found = java_unit_parser(source)
+    found = java_files(source)
     total = sum(map(os.path.getsize, found))
     with open(os.path.join(folder, "list"), "w") as listed:
         listed.write("\n".join(found))
