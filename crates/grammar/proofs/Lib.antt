@@ -1,4 +1,5 @@
 pub mod Soundness
 pub mod Completeness
 pub mod Bound
+pub mod Peeks
 pub mod LawsToCite

@@ -1,0 +1,11 @@
+pub mod Table
+pub mod Choice
+pub mod Ahead
+pub mod Taking
+pub mod Kotlin
+pub mod Parts
+pub mod Meaning
+pub mod Build
+pub mod Depth
+pub mod Reading
+pub mod Files
