@@ -1,5 +1,5 @@
 -- What the heads of statements say of names.
-use Rattle.std.specs.Prelude.{ℕ, List, [], ◌∷◌, ◌++◌, map, Option, Some, None}
+use Rattle.std.specs.Prelude.{List, [], ◌++◌, map, Option, Some, None}
 use Rattle.java_tree.specs.declared.tokens.Position.{Position}
 use Rattle.java_tree.specs.declared.exprs.JExpr.{JExpr}
 use Rattle.java_statement_grammar.specs.declared.declarations.JValue.{JValue}

@@ -9,4 +9,4 @@ loop-x-preserved c =
     told behind behind c.args.xs.now c.loop-x.x-index c.x-item.result (codes "." ++ c.x-item.result.name) _ _ _ (λ ys. refl)
     c.loop-x-test.true c.x-item.is c.loop-x.invariant
     (both (codes ".") c.x-item.result.name _ _ _ c.in_ok-push_str.ensures.ok
-      (c.in_ok-push_str-2.ensures.ok ∙ ap (λ n. c.push_str.new.self ++ n) c.as_str.ensures))
+    (c.in_ok-push_str-2.ensures.ok ∙ ap (λ n. c.push_str.new.self ++ n) c.as_str.ensures))
