@@ -15,7 +15,6 @@ use Rattle.java_type_names.specs.declared.classes.Meant.{Meant}
 use Rattle.java_type_names.specs.declared.classes.Meant.TheVariants as m
 use Rattle.java_type_names.specs.declared.classes.World.{World}
 use Rattle.java_type_names.specs.declared.scopes.FileScope.{FileScope}
-use Rattle.java_type_names.specs.declared.scopes.Single.{Single}
 use Rattle.java_type_names.specs.declared.places.Place.{Place}
 use Rattle.java_type_names.specs.declared.places.Place.TheVariants as p
 use Rattle.java_type_names.specs.Scopes.{is_same, single}

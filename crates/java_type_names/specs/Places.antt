@@ -1,5 +1,5 @@
 -- Names with dots, resolved from the left.
-use Rattle.std.specs.Prelude.{ℕ, Bool, if◌then◌else◌, List, [], ◌∷◌, ◌++◌, Option, Some, None, codes}
+use Rattle.std.specs.Prelude.{ℕ, if◌then◌else◌, List, ◌++◌, Option, Some, None, codes}
 use Rattle.java_tree.specs.declared.tokens.Position.{Position}
 use Rattle.java_classes.specs.Classes.{is_package}
 use Rattle.java_type_names.specs.declared.classes.Meant.{Meant}

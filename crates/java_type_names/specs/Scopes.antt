@@ -1,5 +1,5 @@
 -- What a simple name of a class means in a file.
-use Rattle.std.specs.Prelude.{ℕ, Bool, false, nat_eq, if◌then◌else◌, List, [], ◌∷◌, Option, Some, None}
+use Rattle.std.specs.Prelude.{◌≡◌, ℕ, Bool, true, false, nat_eq, if◌then◌else◌, List, [], ◌∷◌, Option, Some, None}
 use Rattle.std.specs.Str.{bytes_eq}
 use Rattle.std.specs.Option.{option_or}
 use Rattle.java_classes.specs.declared.rows.ClassRow.{ClassRow}
@@ -46,3 +46,24 @@ nearest None demanded = demanded
 abbrev pub simple_class : List ClassRow → FileScope → List ℕ → Found
 simple_class rows scope name =
     nearest (option_or (single name scope.singles) (seen_at rows scope.home scope.home name)) (demanded rows scope.home name scope.demands)
+
+-- ---- in words
+
+-- a package has no class of the name, or this one
+abbrev pub Agrees : Meant → Option Meant → Type 0
+Agrees class None = Unit {0}
+Agrees class (Some other) = is_same class other ≡ true
+
+abbrev pub AllAgree : List ClassRow → List ℕ → List ℕ → Meant → List (List ℕ) → Type 0
+AllAgree rows from name class [] = Unit {0}
+AllAgree rows from name class (home ∷ homes) = Agrees class (seen_at rows from home name) × AllAgree rows from name class homes
+
+abbrev pub OfPackage : Option Meant → Meant → Type 0 → Type 0
+OfPackage (Some found) class demanded = found ≡ class
+OfPackage None class demanded = demanded
+
+-- the class that the file imports by the name; where it imports none, that of its package; where there is none, the only
+-- one of the packages that it imports on demand
+abbrev pub IsOnly : List ClassRow → FileScope → List ℕ → Meant → Type 0
+IsOnly rows scope name class =
+    OfPackage (single name scope.singles) class (OfPackage (seen_at rows scope.home scope.home name) class (AllAgree rows scope.home name class scope.demands))
