@@ -1,0 +1,4 @@
+pub mod Classes
+pub mod Scopes
+pub mod Places
+pub mod Imports
