@@ -32,3 +32,4 @@ pub mod Spelling
 pub mod Numbers
 pub mod Texts
 pub mod LawsToCite
+pub mod Units
