@@ -1,6 +1,7 @@
 mod Worked
 mod WorkedMachine
-mod WorkedShared
+pub mod WorkedShared
+mod WorkedForms
 pub mod Layers
 pub mod Starts
 pub mod RunLaws

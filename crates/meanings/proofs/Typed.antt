@@ -13,10 +13,10 @@ use Rattle.java_typed.specs.declared.units.TUnit.{TUnit}
 use Rattle.meanings.specs.declared.kotlin.KClass.{KClass}
 use Rattle.meanings.specs.declared.kotlin.KExpr.TheOpen.{KExpr-F}
 use Rattle.meanings.specs.Taken.{operator_of, is_taken, Statement, Declares, Prints, Untaken, is_taken_statement, are_taken, MainMethod, MainClass, class_in, is_taken_unit, AllTaken}
-use Rattle.meanings.specs.Convert.{expression_of, statement_of, main_of, class_of, file_of, files_of}
+use Rattle.meanings.specs.Convert.{expression_of, statement_of, main_of, class_of, files_of}
 use Rattle.meanings.specs.Values.{Name, same_name, is_among, Differ}
-use Rattle.meanings.specs.Static.{KType, IntType, Static, declared, declared_local, with_local, type_of, IsTyped, MainHasTypes, ClassHasTypes, FileHasTypes, AllHaveTypes, class_names, main_static}
-use Rattle.meanings.specs.JTyped.{known_by, Knows, AreTyped, MainIsTyped, ClassIsTyped, IsTypedFile, AllAreTyped, class_names as java_class_names}
+use Rattle.meanings.specs.Static.{KType, IntType, Static, declared, declared_local, with_local, type_of, IsTyped, MainHasTypes, ClassHasTypes, AllHaveTypes, class_names, main_static}
+use Rattle.meanings.specs.JTyped.{known_by, Knows, AreTyped, MainIsTyped, ClassIsTyped, AllAreTyped, class_names as java_class_names}
 use Rattle.meanings.specs.JNamed.{named_by, level_by as java_level_by, level_of as java_level_of, IsNamed, AreNamed, MainIsNamed, ClassIsNamed}
 use Rattle.meanings.specs.KSpells.{stands_by, level_by, level_of, IsExpression, AreStatements, IsMain, IsClass}
 use Rattle.meanings.specs.Laws.{TypesAreKept, SpellingIsKept}
@@ -75,9 +75,6 @@ main_typed class (Some main) taken typed = statements_typed main.parameter [] (m
 class_typed : (class : Option MainClass) → ClassTaken class → ClassIsTyped class → ClassHasTypes (option_map class_of class)
 class_typed None taken typed = tt
 class_typed (Some class) taken typed = main_typed class.name class.main taken typed
-
-pub file_types_are_kept : (unit : TUnit) → is_taken_unit unit ≡ true → IsTypedFile unit → FileHasTypes (file_of unit)
-file_types_are_kept unit taken typed = class_typed (class_in unit) (unit_taken unit taken) typed
 
 all_typed : (units : List TUnit) → AllTaken units → AllAreTyped units → AllHaveTypes (files_of units)
 all_typed [] taken typed = tt
