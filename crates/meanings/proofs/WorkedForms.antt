@@ -5,7 +5,7 @@ use Rattle.std.specs.Int.{int_wrap}
 use Rattle.std.specs.Fmt.{digits}
 use Prim.Native.String.{String}
 use Rattle.j2k_base.specs.declared.constants.Op2.TheVariants.{Sub}
-use Rattle.meanings.specs.Values.{Simple, Field, Site, Short, Int, Long, Integers, Objects, Arrays, Value, Null, Integer, Boolean, Units, Object, Array, Lambda, NoMore, Capture, Touch, AnObject, ALambda, Alloc, Built, Put, GetStatic, Lib, Print, Raise, Torn, End, Result, Uncaught, Answer, Done, Given, text_of}
+use Rattle.meanings.specs.Values.{Simple, Field, Site, Short, Int, Long, Integers, Objects, Arrays, Value, Null, Integer, Boolean, Units, Array, Lambda, NoMore, Capture, Touch, AnObject, ALambda, Alloc, Built, Put, GetStatic, Lib, Print, Raise, Torn, End, Result, Uncaught, Answer, Done, Given, text_of}
 use Rattle.meanings.specs.Classes.{is_a, plain_classes}
 use Rattle.meanings.specs.Outcome.{Break, Continue, Leave, Exits, Returns, Throws, Meaning, pure, ◌>>=◌, ◌>>◌, jump, local, assign}
 use Rattle.meanings.specs.Machine.{Callee, InText, InRow, Place, call, call_on, get_static, put_element, print_line, arithmetic, binary, all, sequence, once, catch, is_leave, loop, do_loop, for_loop, until_loop, try}
