@@ -3,6 +3,7 @@
 ghost use Rattle.std.specs.Prelude.{◌≡◌};
 ghost use Rattle.java_taken.specs.Expressions as s;
 ghost use Rattle.java_taken.specs.Judged.{Judges};
+ghost use Rattle.java_taken.specs.Places as p;
 
 use crate::judged::Refusal;
 use crate::names::Names;
@@ -66,18 +67,19 @@ fn paren(alloc: Global, at: Position, inner: Boxed<TExpr>) -> Result<Boxed<TExpr
     Ok(Boxed::new(alloc, TExpr::Paren(at, inner))?)
 }
 
+/// The operator of the whole expression between its operands.
 fn binary(
     alloc: Global,
-    first: Position,
+    whole: &JExpr,
     left: Boxed<TExpr>,
     op: Op2,
     at: Position,
     right: Boxed<TExpr>,
 ) -> Result<Boxed<TExpr>, Refusal>
-    ensures { Judges (s.binary_of first left op at right) result }
+    ensures { Judges (s.binary_of (p.first_at whole.now) left op at right) result }
 {
     if is_number(left.get()) && is_number(right.get()) {
-        return Err(Refusal::Open(first));
+        return Err(Refusal::Open(first_at(whole)));
     }
     let tree = TExpr::Binary {
         left,
@@ -104,7 +106,7 @@ pub(crate) fn expression(alloc: Global, names: &Names, x: &JExpr) -> Result<Boxe
             Some(operator) => {
                 let first = expression(alloc, names, left.get())?;
                 let second = expression(alloc, names, right.get())?;
-                binary(alloc, first_at(x), first, operator, *at, second)
+                binary(alloc, x, first, operator, *at, second)
             }
             None => Err(Refusal::Open(first_at(x))),
         },

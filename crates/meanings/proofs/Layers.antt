@@ -6,7 +6,6 @@ use Rattle.j2k_base.specs.declared.constants.Const.TheVariants as const
 use Rattle.j2k_base.specs.declared.constants.Value.{Value as Constant}
 use Rattle.j2k_base.specs.declared.constants.Value.TheVariants as constant
 use Rattle.j2k_base.specs.declared.constants.Op2.{Op2}
-use Rattle.j2k_base.specs.declared.constants.Op2.TheVariants as op
 use Rattle.java_typed.specs.declared.types.TType.{TType}
 use Rattle.java_typed.specs.declared.exprs.TExpr.{TExpr, roll-TExpr, out-roll-TExpr, map-TExpr, fold-roll-TExpr, ind-TExpr, every-TExpr, every_here-TExpr, every_held-TExpr}
 use Rattle.java_typed.specs.declared.exprs.TExpr.TheOpen.{TExpr-F}

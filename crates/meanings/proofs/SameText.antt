@@ -4,11 +4,9 @@ use Rattle.std.specs.Prelude.{option_map, filter_map}
 use Rattle.std.specs.List.{cons_option}
 use Rattle.java_tree.specs.declared.tokens.Position.{Position}
 use Rattle.j2k_base.specs.declared.constants.Const.TheVariants as const
-use Rattle.j2k_base.specs.declared.constants.Value.{Value as Constant}
 use Rattle.j2k_base.specs.declared.constants.Value.TheVariants as constant
 use Rattle.j2k_base.specs.declared.constants.Op2.{Op2}
 use Rattle.j2k_base.specs.declared.constants.Op2.TheVariants as op
-use Rattle.java_typed.specs.declared.types.TType.{TType}
 use Rattle.java_typed.specs.declared.exprs.TExpr.{TExpr, map-TExpr, fold-TExpr, fold-roll-TExpr, roll-TExpr}
 use Rattle.java_typed.specs.declared.exprs.TExpr.TheOpen.{TExpr-F}
 use Rattle.meanings.specs.declared.kotlin.KExpr.TheOpen.{KExpr-F}

@@ -1,18 +1,16 @@
 -- The Kotlin of a well typed file is well typed, and its canonical text spells it.
-use Rattle.std.proofs.Common.{◌≡◌, ℕ, pos, Bool, true, false, ◌&&◌, List, [], ◌∷◌, Option, Some, None, map, if◌then◌else◌, refl, sym, ap, ◌∙◌, subst}
+use Rattle.std.proofs.Common.{◌≡◌, ℕ, pos, Bool, true, false, List, [], ◌∷◌, Option, Some, None, map, if◌then◌else◌, refl, sym, ap, ◌∙◌, subst}
 use Rattle.std.specs.Prelude.{option_map}
 use Rattle.std.specs.List.{cons_option}
 use Rattle.java_tree.specs.declared.tokens.Position.{Position}
 use Rattle.j2k_base.specs.declared.constants.Const.TheVariants as const
 use Rattle.j2k_base.specs.declared.constants.Value.TheVariants as constant
-use Rattle.java_typed.specs.declared.exprs.TExpr.{TExpr, roll-TExpr, map-TExpr, ind-TExpr}
+use Rattle.java_typed.specs.declared.exprs.TExpr.{TExpr, roll-TExpr, ind-TExpr}
 use Rattle.java_typed.specs.declared.exprs.TExpr.TheOpen.{TExpr-F}
-use Rattle.java_typed.specs.declared.units.TMethod.{TMethod}
-use Rattle.java_typed.specs.declared.units.TClass.{TClass}
 use Rattle.java_typed.specs.declared.units.TUnit.{TUnit}
 use Rattle.meanings.specs.declared.kotlin.KClass.{KClass}
 use Rattle.meanings.specs.declared.kotlin.KExpr.TheOpen.{KExpr-F}
-use Rattle.meanings.specs.Taken.{operator_of, is_taken, Statement, Declares, Prints, Untaken, is_taken_statement, are_taken, MainMethod, MainClass, class_in, is_taken_unit, AllTaken}
+use Rattle.meanings.specs.Taken.{operator_of, is_taken, Statement, Declares, Prints, Untaken, are_taken, MainMethod, MainClass, class_in, AllTaken}
 use Rattle.meanings.specs.Convert.{expression_of, statement_of, main_of, class_of, files_of}
 use Rattle.meanings.specs.Values.{Name, same_name, is_among, Differ}
 use Rattle.meanings.specs.Static.{KType, IntType, Static, declared, declared_local, with_local, type_of, IsTyped, MainHasTypes, ClassHasTypes, AllHaveTypes, class_names, main_static}
@@ -20,7 +18,7 @@ use Rattle.meanings.specs.JTyped.{known_by, Knows, AreTyped, MainIsTyped, ClassI
 use Rattle.meanings.specs.JNamed.{named_by, level_by as java_level_by, level_of as java_level_of, IsNamed, AreNamed, MainIsNamed, ClassIsNamed}
 use Rattle.meanings.specs.KSpells.{stands_by, level_by, level_of, IsExpression, AreStatements, IsMain, IsClass}
 use Rattle.meanings.specs.Laws.{TypesAreKept, SpellingIsKept}
-use Rattle.meanings.proofs.Layers.{t_number, both_are, java_induct, java_here, java_in_paren, java_in_binary, java_level_at, layer_of, convert_at, type_at, level_at, every_local, every_number, every_paren, every_binary}
+use Rattle.meanings.proofs.Layers.{both_are, java_induct, java_here, java_in_paren, java_in_binary, java_level_at, layer_of, convert_at, type_at, level_at, every_local, every_number, every_paren, every_binary}
 use Rattle.meanings.proofs.Units.{MainTaken, ClassTaken, unit_taken}
 
 -- the declared types are `Int` at the locals, and no other local is declared

@@ -1,11 +1,10 @@
 -- What a unit that is taken holds.
-use Rattle.std.proofs.Common.{◌≡◌, Bool, true, false, ◌&&◌, List, [], ◌∷◌, Option, Some, None, is_none}
-use Rattle.std.specs.Prelude.{filter_map}
+use Rattle.std.proofs.Common.{◌≡◌, true, ◌&&◌, List, [], ◌∷◌, Option, Some, None, is_none}
 use Rattle.std.specs.List.{cons_option}
 use Rattle.java_typed.specs.declared.units.TMethod.{TMethod}
 use Rattle.java_typed.specs.declared.units.TClass.{TClass}
 use Rattle.java_typed.specs.declared.units.TUnit.{TUnit}
-use Rattle.meanings.specs.Taken.{are_taken, MainMethod, main_of_method, main_in, MainClass, class_by, class_among, class_in, classes_in, is_empty, is_taken_main, are_taken_methods, are_unwritten, is_taken_class, are_taken_classes, is_taken_unit, AllTaken}
+use Rattle.meanings.specs.Taken.{are_taken, MainMethod, main_of_method, main_in, MainClass, class_among, class_in, classes_in, is_empty, is_taken_main, are_taken_methods, are_unwritten, are_taken_classes, is_taken_unit, AllTaken}
 use Rattle.meanings.proofs.Layers.{both_are}
 
 -- the statements of a `main`, where there is one, are taken

@@ -1,5 +1,5 @@
 -- Java: what each construct of a typed tree does, and the program of a project.
-use Rattle.std.specs.Prelude.{ℕ, pos, true, false, List, [], ◌∷◌, map, filter_map, Option, option_map}
+use Rattle.std.specs.Prelude.{ℕ, true, false, List, [], ◌∷◌, map, filter_map, Option, option_map}
 use Rattle.j2k_base.specs.declared.constants.Value.{Value as Constant}
 use Rattle.j2k_base.specs.declared.constants.Value.TheVariants as constant
 use Rattle.java_typed.specs.declared.exprs.TExpr.{TExpr, fold-TExpr}
