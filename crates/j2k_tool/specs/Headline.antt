@@ -27,10 +27,10 @@ AreWritten dst [] [] [] = Unit {0}
 AreWritten dst (taken ∷ java) (made ∷ kotlin) (file ∷ files) = IsWritten dst taken made file × AreWritten dst java kotlin files
 AreWritten dst java kotlin files = ⊥
 
--- The words convert one folder to another. The files under the first spell Java units, one each, whose typed trees are of the forms that are taken. A Kotlin file for each, in
--- the same folder, and a report were written under the second, and nothing else changed. Each Kotlin file spells one Kotlin file tree. Together
--- these are well typed, and, for every entry point, fitting input, schedule and bound, they make exactly the steps of the Java files under the
--- recorded names.
+-- The words convert one folder to another. The files under the first spell Java units, one each, whose typed trees are of the forms that
+-- are taken. A Kotlin file for each, in the same folder, and a report were written under the second, and nothing else changed. Each Kotlin
+-- file spells one Kotlin file tree. Together these are well typed, and, for every entry point, fitting input, schedule and bound, they make
+-- exactly the steps of the Java files under the recorded names.
 pub record Headline (words : List (List ℕ)) (files : Files) (new : Option Files) : Type 0 where
   pub src : List ℕ
   pub dst : List ℕ
