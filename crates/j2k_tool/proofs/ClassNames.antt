@@ -16,7 +16,7 @@ use Rattle.java_tree.specs.Seen.{seen}
 use Rattle.java_taken.specs.Names.{is_plain, is_reserved, is_free, contains_name}
 use Rattle.java_taken.specs.Units.{is_file_of, may_name}
 use Rattle.java_taken.proofs.LawsToCite.{may_be_named, taken as taken_good}
-use Rattle.meanings.specs.declared.java.JClass.{JClass}
+use Rattle.meanings.specs.Taken.{MainClass, class_in, AllTaken}
 use Rattle.meanings.specs.JTyped.{AllAreTyped, class_names, JTyped}
 use Rattle.meanings.specs.Values.{same_name, is_among, Differ}
 use Rattle.j2k_tool.specs.declared.files.TakenFile.{TakenFile}
@@ -166,8 +166,8 @@ not_among earlier name (other ∷ names) first are =
     ap (λ b. cond b true (is_among names name)) (another earlier name other are.0 first) ∙ not_among earlier name names first are.1
 
 -- the names of a file and of those behind it
-more_apart : (earlier : List (List ℕ)) (path : List ℕ) (o : Option JClass) (names : List (List ℕ)) → ((class : JClass) → o ≡ Some class → may_name earlier path class.name ≡ true) → Apart (with_name earlier (class_name path)) names
-    → Apart earlier (cons_option (option_map (λ (class : JClass). class.name) o) names)
+more_apart : (earlier : List (List ℕ)) (path : List ℕ) (o : Option MainClass) (names : List (List ℕ)) → ((class : MainClass) → o ≡ Some class → may_name earlier path class.name ≡ true) → Apart (with_name earlier (class_name path)) names
+    → Apart earlier (cons_option (option_map (λ (class : MainClass). class.name) o) names)
 more_apart earlier path None names may apart = (all_before earlier (class_name path) names apart.0, apart.1)
 more_apart earlier path (Some class) names may apart =
     let name = class.name in
@@ -181,7 +181,7 @@ more_apart earlier path (Some class) names may apart =
 -- ---- files that are taken
 
 module _ (classes : List (List ℕ)) where
-  may_name_class : (earlier : List (List ℕ)) (file : SourceFile) (taken : TakenFile) → IsTaken classes earlier file taken → (class : JClass) → taken.typed.file.class ≡ Some class → may_name earlier file.path class.name ≡ true
+  may_name_class : (earlier : List (List ℕ)) (file : SourceFile) (taken : TakenFile) → IsTaken classes earlier file taken → (class : MainClass) → class_in taken.typed ≡ Some class → may_name earlier file.path class.name ≡ true
   may_name_class earlier file taken is class there =
       subst (λ path. may_name earlier path class.name ≡ true) (is.has.spells.path ∙ is.has.has.path) (may_be_named classes earlier is.spelled taken.typed class is.typed there)
 
@@ -190,7 +190,7 @@ module _ (classes : List (List ℕ)) where
   all_apart earlier [] (first ∷ taken) are = absurd are
   all_apart earlier (file ∷ files) [] are = absurd are
   all_apart earlier (file ∷ files) (first ∷ taken) are =
-      more_apart earlier file.path first.typed.file.class (class_names (trees_of taken)) (may_name_class earlier file first are.0) (all_apart (with_name earlier (class_name file.path)) files taken are.1)
+      more_apart earlier file.path (class_in first.typed) (class_names (trees_of taken)) (may_name_class earlier file first are.0) (all_apart (with_name earlier (class_name file.path)) files taken are.1)
 
   all_typed : (earlier : List (List ℕ)) (files : List SourceFile) (taken : List TakenFile) → AreTaken classes earlier files taken → AllAreTyped (trees_of taken)
   all_typed earlier [] [] are = tt
@@ -200,6 +200,17 @@ module _ (classes : List (List ℕ)) where
       let is = are.0 in (
         (taken_good classes earlier is.spelled first.typed (seen is.has.tokens.list) is.typed is.has.spells.spelled).typed,
         all_typed (with_name earlier (class_name file.path)) files taken are.1,
+      )
+
+  -- the files of a project are of the forms that are taken
+  pub project_taken : (earlier : List (List ℕ)) (files : List SourceFile) (taken : List TakenFile) → AreTaken classes earlier files taken → AllTaken (trees_of taken)
+  project_taken earlier [] [] are = tt
+  project_taken earlier [] (first ∷ taken) are = absurd are
+  project_taken earlier (file ∷ files) [] are = absurd are
+  project_taken earlier (file ∷ files) (first ∷ taken) are =
+      let is = are.0 in (
+        (taken_good classes earlier is.spelled first.typed (seen is.has.tokens.list) is.typed is.has.spells.spelled).taken,
+        project_taken (with_name earlier (class_name file.path)) files taken are.1,
       )
 
   -- the files of a project are well typed

@@ -21,7 +21,7 @@ use Rattle.j2k_tool.specs.Projects.{AreTaken, IsProject, trees_of}
 use Rattle.j2k_tool.specs.Sources.{IsTaken}
 use Rattle.j2k_tool.specs.Words.{words_mean}
 use Rattle.j2k_tool.specs.Written.{placed, kotlin_file, report_file}
-use Rattle.j2k_tool.proofs.ClassNames.{project_typed}
+use Rattle.j2k_tool.proofs.ClassNames.{project_taken, project_typed}
 use Rattle.j2k_tool.proofs.Once.{project_once}
 
 -- what asks for an answer of the status Done
@@ -58,11 +58,11 @@ of_asked words files answer asks done = of_words (words_mean words) files answer
 abbrev kotlin_files : List ℕ → List TakenFile → List (List ℕ × List ℕ)
 kotlin_files dst java = map (placed dst) (map kotlin_file java)
 
-written : (dst : List ℕ) (classes earlier : List (List ℕ)) (file : SourceFile) (taken : TakenFile) → IsTaken classes earlier file taken → IsWritten dst taken (file_of taken.typed.file) (placed dst (kotlin_file taken))
+written : (dst : List ℕ) (classes earlier : List (List ℕ)) (file : SourceFile) (taken : TakenFile) → IsTaken classes earlier file taken → IsWritten dst taken (file_of taken.typed) (placed dst (kotlin_file taken))
 written dst classes earlier file taken is =
     let good = taken_good classes earlier is.spelled taken.typed (seen is.has.tokens.list) is.typed is.has.spells.spelled in
-    let kotlin = file_of taken.typed.file in
-    let spelled = spelling_is_kept taken.typed.file good.named in
+    let kotlin = file_of taken.typed in
+    let spelled = spelling_is_kept taken.typed good.taken good.named in
     record {
       place = refl;
       spelled = spelled;
@@ -79,6 +79,7 @@ all_written dst classes earlier (file ∷ files) (taken ∷ java) are =
 pub headline : (words : List (List ℕ)) (files : Files) (new : Option Files) (status : Status) (text : List ℕ) → Answered (Asks words files) status text (Some files) new → status ≡ Done → Headline words files new
 headline words files new status text answered done =
     let c = of_asked words files answered.answer answered.asked (answered.status_is ∙ done) in
+    let all = project_taken (names_of c.project.sources.files) [] c.project.sources.files c.java c.project.takes.1 in
     record {
       src = c.src;
       dst = c.dst;
@@ -86,12 +87,13 @@ headline words files new status text answered done =
       java = c.java;
       project = c.project;
       one_java = λ other project. project_once c.src files other c.java project c.project;
+      taken = all;
       kotlin = files_of (trees_of c.java);
       written = kotlin_files c.dst c.java;
       made = answered.made ∙ ap (λ (a : Answer). with_files (Some files) a.files) c.is ∙ ap (with_files (Some files)) (map-append (placed c.dst) (map kotlin_file c.java) (report_file c.java ∷ []));
       spelled = all_written c.dst (names_of c.project.sources.files) [] c.project.sources.files c.java c.project.takes.1;
-      typed = types_are_kept (trees_of c.java) (project_typed (names_of c.project.sources.files) c.project.sources.files c.java c.project.takes.1);
-      steps = same_steps (trees_of c.java) c.project.sources.entries;
+      typed = types_are_kept (trees_of c.java) all (project_typed (names_of c.project.sources.files) c.project.sources.files c.java c.project.takes.1);
+      steps = same_steps (trees_of c.java) c.project.sources.entries all;
       entered = entries_are_entered (trees_of c.java) c.project.sources.entries;
     }
 

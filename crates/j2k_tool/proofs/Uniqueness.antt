@@ -12,7 +12,7 @@ use Rattle.java_lexer.proofs.LawsToCite.{reading_once}
 use Rattle.java_unit_grammar.specs.declared.units.JUnit.{JUnit}
 use Rattle.java_parser.specs.Spelling.{JSpells, IsFaulty, fault_in}
 use Rattle.java_parser.proofs.LawsToCite.{same_unit, no_unit, same_told}
-use Rattle.java_taken.specs.declared.judged.TypedFile.{TypedFile}
+use Rattle.java_typed.specs.declared.units.TUnit.{TUnit}
 use Rattle.java_taken.specs.Judged.{Judged}
 use Rattle.java_taken.specs.Units.{unit}
 use Rattle.j2k_tool.specs.declared.files.TakenFile.{TakenFile}
@@ -67,7 +67,7 @@ unit_apart earlier file u fault p q =
 
 -- ---- what is judged of a unit
 
-abbrev taken_as : List ℕ → TypedFile → TakenFile
+abbrev taken_as : List ℕ → TUnit → TakenFile
 taken_as path typed = record { path = path; typed = typed }
 
 module _ (classes earlier : List (List ℕ)) (file : SourceFile) where
@@ -88,7 +88,7 @@ module _ (classes earlier : List (List ℕ)) (file : SourceFile) where
   taken_once a b p q =
       let e : Judged.Typed a.typed ≡ Judged.Typed b.typed = sym p.typed ∙ same_judged p.spelled q.spelled p.has q.has ∙ q.typed in
       let typed : a.typed ≡ b.typed = cc in
-      ap (λ (x : List ℕ). taken_as x a.typed) (p.path ∙ sym q.path) ∙ ap (λ (x : TypedFile). taken_as b.path x) typed
+      ap (λ (x : List ℕ). taken_as x a.typed) (p.path ∙ sym q.path) ∙ ap (λ (x : TUnit). taken_as b.path x) typed
 
   -- ---- what is found
 

@@ -4,6 +4,7 @@ use Rattle.std.specs.List.{flat_map}
 use Rattle.j2k_io.specs.Disks.{Files, in_folder, with_files}
 use Rattle.meanings.specs.declared.kotlin.KFile.{KFile}
 use Rattle.meanings.specs.KSpells.{KSpells, HasNoKeyword}
+use Rattle.meanings.specs.Taken.{AllTaken}
 use Rattle.meanings.specs.SameSteps.{SameSteps, EntriesAreEntered}
 use Rattle.meanings.specs.Static.{KTyped}
 use Rattle.j2k_tool.specs.declared.files.TakenFile.{TakenFile}
@@ -26,10 +27,10 @@ AreWritten dst [] [] [] = Unit {0}
 AreWritten dst (taken ∷ java) (made ∷ kotlin) (file ∷ files) = IsWritten dst taken made file × AreWritten dst java kotlin files
 AreWritten dst java kotlin files = ⊥
 
--- The words convert one folder to another. The files under the first spell Java units, one each, which are taken. A Kotlin file for each, in
--- the same folder, and a report were written under the second, and nothing else changed. Each Kotlin file spells one Kotlin file tree. Together
--- these are well typed, and, for every entry point, fitting input, schedule and bound, they make exactly the steps of the Java files under the
--- recorded names.
+-- The words convert one folder to another. The files under the first spell Java units, one each, whose typed trees are of the forms that
+-- are taken. A Kotlin file for each, in the same folder, and a report were written under the second, and nothing else changed. Each Kotlin
+-- file spells one Kotlin file tree. Together these are well typed, and, for every entry point, fitting input, schedule and bound, they make
+-- exactly the steps of the Java files under the recorded names.
 pub record Headline (words : List (List ℕ)) (files : Files) (new : Option Files) : Type 0 where
   pub src : List ℕ
   pub dst : List ℕ
@@ -37,6 +38,7 @@ pub record Headline (words : List (List ℕ)) (files : Files) (new : Option File
   pub java : List TakenFile
   pub project : IsProject src files java
   pub one_java : (other : List TakenFile) → IsProject src files other → other ≡ java
+  pub taken : AllTaken (trees_of java)
   pub kotlin : List KFile
   pub written : List (List ℕ × List ℕ)
   pub made : new ≡ with_files (Some files) (written ++ (in_folder dst report_name, ReportText (length java) (flat_map Choices java)) ∷ [])

@@ -9,7 +9,7 @@ use Rattle.j2k_io.specs.Disks.{Files}
 use Rattle.j2k_settings.specs.Settings.{settings_file}
 use Rattle.j2k_sources.specs.declared.loading.Sources.{Sources}
 use Rattle.j2k_sources.specs.Sources.{HasSources}
-use Rattle.meanings.specs.declared.java.JFile.{JFile}
+use Rattle.java_typed.specs.declared.units.TUnit.{TUnit}
 use Rattle.j2k_tool.specs.declared.files.TakenFile.{TakenFile}
 use Rattle.j2k_tool.specs.declared.files.Found.{Found}
 use Rattle.j2k_tool.specs.declared.files.Found.TheVariants as found
@@ -78,8 +78,8 @@ pub record IsProject (src : List ℕ) (files : Files) (taken : List TakenFile) :
   pub takes : Takes sources taken
 
 -- the typed trees of files
-abbrev pub trees_of : List TakenFile → List JFile
-trees_of taken = map (λ file. file.typed.file) taken
+abbrev pub trees_of : List TakenFile → List TUnit
+trees_of taken = map (λ file. file.typed) taken
 
 -- what sources are
 abbrev pub IsJudged : Sources → Project → Type 0

@@ -1,13 +1,13 @@
 -- The choices of a conversion, and the report on them.
-use Rattle.std.specs.Prelude.{ℕ, List, [], ◌∷◌, ◌++◌, length, Option, Some, None, Bool, is_some, codes}
+use Rattle.std.specs.Prelude.{ℕ, List, [], ◌∷◌, ◌++◌, length, Bool, true, false, if◌then◌else◌, codes}
 use Rattle.std.specs.Fmt.{decimal}
-use Rattle.std.specs.List.{flat_map}
+use Rattle.std.specs.List.{flat_map, list_any}
 use Rattle.j2k_base.specs.declared.choices.ChoiceKind.{ChoiceKind}
 use Rattle.j2k_base.specs.declared.choices.ChoiceKind.TheVariants.{Companion, Property, Rename, Widen, Nullable, When, Chain, Range, While, Bind, Copy, Fold, Drop}
 use Rattle.j2k_base.specs.declared.choices.Choice.{Choice}
 use Rattle.java_tree.specs.declared.tokens.Position.{Position}
-use Rattle.meanings.specs.declared.java.JClass.{JClass}
-use Rattle.meanings.specs.declared.java.JMain.{JMain}
+use Rattle.java_typed.specs.declared.units.TMethod.{TMethod}
+use Rattle.java_typed.specs.declared.units.TClass.{TClass}
 use Rattle.j2k_tool.specs.declared.files.TakenFile.{TakenFile}
 use Rattle.j2k_faults.specs.Faults.{place_text, line_end}
 
@@ -48,20 +48,22 @@ companion path at name = record {
   text = name;
 }
 
--- a class has one for its static `main`
-abbrev pub companions : List ℕ → Position → List ℕ → Option JMain → List Choice
-companions path at name None = []
-companions path at name (Some main) = companion path at name ∷ []
+-- a class has one where a method of it is static
+abbrev pub companions : List ℕ → TClass → List Choice
+companions path c = if list_any (λ (m : TMethod). m.modifiers.is_static) c.methods then companion path c.at c.name ∷ [] else []
 
-abbrev pub class_choices : List ℕ → Option Position → Option JClass → List Choice
-class_choices path (Some at) (Some class) = companions path at class.name class.main
-class_choices path (Some at) None = []
-class_choices path None class = []
+abbrev pub class_choices : List ℕ → List TClass → List Choice
+class_choices path [] = []
+class_choices path (c ∷ cs) = companions path c
 
 -- the choices of a file that is taken, at the name of its class
 abbrev pub Choices : TakenFile → List Choice
-Choices taken = class_choices taken.path taken.typed.at taken.typed.file.class
+Choices taken = class_choices taken.path taken.typed.classes
+
+abbrev pub holds_class : List TClass → Bool
+holds_class [] = false
+holds_class (c ∷ cs) = true
 
 -- a class stands in the file
 unfoldable pub has_class : TakenFile → Bool
-has_class taken = is_some taken.typed.file.class
+has_class taken = holds_class taken.typed.classes

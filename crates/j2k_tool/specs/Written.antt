@@ -18,7 +18,7 @@ placed dst file = (in_folder dst file.path, file.text)
 
 -- the Kotlin file of a Java file, in the same folder
 abbrev pub kotlin_file : TakenFile → MadeFile
-kotlin_file taken = record { path = kotlin_path taken.path; text = KText (file_of taken.typed.file) }
+kotlin_file taken = record { path = kotlin_path taken.path; text = KText (file_of taken.typed) }
 
 abbrev pub report_file : List TakenFile → MadeFile
 report_file taken = record { path = report_name; text = ReportText (length taken) (flat_map Choices taken) }

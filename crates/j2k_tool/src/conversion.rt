@@ -1,20 +1,26 @@
-// The Kotlin of a Java tree, part by part.
+// The Kotlin of a typed tree, part by part.
 ghost use Rattle.std.specs.Prelude.{◌≡◌, map, option_map, IfOk};
-ghost use Rattle.meanings.specs.Convert.{expression_of as expression_by, statement_of as statement_by, main_of as main_by, class_of as class_by, file_of as file_by};
+ghost use Rattle.java_typed.specs.declared.exprs.TExpr.{out-TExpr};
+ghost use Rattle.meanings.specs.Taken as t;
+ghost use Rattle.meanings.specs.Convert.{number_of as number_by, expression_of as expression_by, statement_of as statement_by, main_of as main_by, class_of as class_by, file_of as file_by};
 
-use j2k_base::{Name, NoMemory};
-use meanings::java::{JClass, JExpr, JFile, JMain, JStmt};
+use j2k_base::{Const, Kind, Name, NoMemory, Op2, Value};
+use java_typed::{
+    Access, ClassRef, MemberRef, TBlock, TClass, TDeclarator, TExpr, TMethod, TParam, TSimple,
+    TStatement, TType, TUnit,
+};
 use meanings::kotlin::{KClass, KExpr, KFile, KMain, KStmt, KStmts};
 use meanings::names::Names;
+use meanings::operators::Operator;
 use sqlite_items::Boxed;
 use std::alloc::Global;
 
-/// A file has the same package.
-pub fn file_of(alloc: Global, file: &JFile) -> Result<KFile, NoMemory>
-    ensures { IfOk result (λ made. made ≡ file_by file.now) }
+/// A unit has the same package.
+pub fn file_of(alloc: Global, unit: &TUnit) -> Result<KFile, NoMemory>
+    ensures { IfOk result (λ made. made ≡ file_by unit.now) }
 {
-    let package = names_of(alloc, file.package.as_slice())?;
-    let class = class_in(alloc, &file.class)?;
+    let package = names_of(alloc, unit.package.as_slice())?;
+    let class = class_in(alloc, unit.classes.as_slice())?;
     Ok(KFile { package, class })
 }
 
@@ -28,43 +34,110 @@ fn names_of(alloc: Global, names: &[Name]) -> Result<Names, NoMemory>
     Ok(made)
 }
 
-fn class_in(alloc: Global, class: &Option<JClass>) -> Result<Option<KClass>, NoMemory>
-    ensures { IfOk result (λ made. made ≡ option_map class_by class.now) }
+fn class_in(alloc: Global, classes: &[TClass]) -> Result<Option<KClass>, NoMemory>
+    ensures { IfOk result (λ made. made ≡ option_map class_by (t.class_among classes.now)) }
 {
-    match class {
-        Some(class) => Ok(Some(class_of(alloc, class)?)),
-        None => Ok(None),
+    match classes {
+        [] => Ok(None),
+        [class, ..] => Ok(Some(class_of(alloc, class)?)),
     }
 }
 
 /// A class whose one member is static has that member in its companion.
-fn class_of(alloc: Global, class: &JClass) -> Result<KClass, NoMemory>
-    ensures { IfOk result (λ made. made ≡ class_by class.now) }
+fn class_of(alloc: Global, class: &TClass) -> Result<KClass, NoMemory>
+    ensures { IfOk result (λ made. made ≡ class_by (t.class_by class.now)) }
 {
     let name = Name::from_str(alloc, class.name.as_str())?;
-    let main = main_in(alloc, &class.main)?;
+    let main = main_in(alloc, class.methods.as_slice())?;
     Ok(KClass { name, main })
 }
 
-fn main_in(alloc: Global, main: &Option<JMain>) -> Result<Option<KMain>, NoMemory>
-    ensures { IfOk result (λ made. made ≡ option_map main_by main.now) }
+fn main_in(alloc: Global, methods: &[TMethod]) -> Result<Option<KMain>, NoMemory>
+    ensures { IfOk result (λ made. made ≡ option_map main_by (t.main_in methods.now)) }
 {
-    match main {
-        Some(main) => Ok(Some(main_of(alloc, main)?)),
-        None => Ok(None),
+    match methods {
+        [method] if has_main_head(method) => {
+            main_with(alloc, method.params.as_slice(), &method.block)
+        }
+        _ => Ok(None),
     }
 }
 
-fn main_of(alloc: Global, main: &JMain) -> Result<KMain, NoMemory>
-    ensures { IfOk result (λ made. made ≡ main_by main.now) }
+/// The head of `main` but for its parameter (JLS 12.1.4).
+fn has_main_head(method: &TMethod) -> bool
+    ensures { result ≡ t.has_main_head method.now }
 {
-    let parameter = Name::from_str(alloc, main.parameter.as_str())?;
-    let body = statements_of(alloc, main.body.as_slice())?;
+    method.name.as_bytes() == "main".as_bytes()
+        && matches!(method.modifiers.access, Access::Public)
+        && method.modifiers.is_static
+        && method.result.is_none()
+}
+
+fn main_with(
+    alloc: Global,
+    params: &[TParam],
+    block: &Option<TBlock>,
+) -> Result<Option<KMain>, NoMemory>
+    ensures { IfOk result (λ made. made ≡ option_map main_by (t.main_with (t.parameter_of params.now) block.now)) }
+{
+    match (params, block) {
+        ([param], Some(block)) if is_strings(&param.kind.kind) => {
+            let main = main_of(alloc, &param.name, block.statements.as_slice())?;
+            Ok(Some(main))
+        }
+        _ => Ok(None),
+    }
+}
+
+fn main_of(alloc: Global, name: &Name, statements: &[TStatement]) -> Result<KMain, NoMemory>
+    ensures { IfOk result (λ made. made ≡ main_by (t.main_from name.now statements.now)) }
+{
+    let parameter = Name::from_str(alloc, name.as_str())?;
+    let body = statements_of(alloc, statements)?;
     Ok(KMain { parameter, body })
 }
 
-fn statements_of(alloc: Global, statements: &[JStmt]) -> Result<KStmts, NoMemory>
-    ensures { IfOk result (λ made. made ≡ map statement_by statements.now) }
+#[tactic(auto, unfolding(meanings::specs::Taken::is_string))]
+fn is_string(x: &TType) -> bool
+    ensures { result ≡ t.is_string x.now }
+{
+    match x {
+        TType::Class(ClassRef::Library(number), arguments) => {
+            *number == 1 && matches!(arguments.as_slice(), [])
+        }
+        _ => false,
+    }
+}
+
+#[tactic(auto, unfolding(meanings::specs::Taken::is_strings))]
+fn is_strings(x: &TType) -> bool
+    ensures { result ≡ t.is_strings x.now }
+{
+    match x {
+        TType::Array(element) => is_string(element.get()),
+        _ => false,
+    }
+}
+
+#[tactic(auto, unfolding(meanings::specs::Taken::is_int))]
+fn is_int(x: &TType) -> bool
+    ensures { result ≡ t.is_int x.now }
+{
+    matches!(x, TType::Number(Kind::Int))
+}
+
+#[tactic(auto, unfolding(meanings::specs::Taken::is_println))]
+fn is_println(member: MemberRef) -> bool
+    ensures { result ≡ t.is_println member }
+{
+    match member.class {
+        ClassRef::Library(number) => number == 16 && member.place == 8,
+        ClassRef::Project(_) => false,
+    }
+}
+
+fn statements_of(alloc: Global, statements: &[TStatement]) -> Result<KStmts, NoMemory>
+    ensures { IfOk result (λ made. made ≡ map statement_by (map t.statement statements.now)) }
 {
     let mut made = KStmts::new(alloc);
     for statement in statements {
@@ -74,41 +147,113 @@ fn statements_of(alloc: Global, statements: &[JStmt]) -> Result<KStmts, NoMemory
     Ok(made)
 }
 
-/// A local that is never assigned again is a `val`, and `System.out.println` is `println`.
-fn statement_of(alloc: Global, statement: &JStmt) -> Result<KStmt, NoMemory>
-    ensures { IfOk result (λ made. made ≡ statement_by statement.now) }
+#[tactic(auto, unfolding(meanings::specs::Taken::statement))]
+fn statement_of(alloc: Global, statement: &TStatement) -> Result<KStmt, NoMemory>
+    ensures { IfOk result (λ made. made ≡ statement_by (t.statement statement.now)) }
 {
     match statement {
-        JStmt::Local(name, value) => {
-            let name = Name::from_str(alloc, name.as_str())?;
-            let value = expression_of(alloc, value)?;
-            Ok(KStmt::Val(name, value.into_inner()))
-        }
-        JStmt::Print(value) => {
-            let value = expression_of(alloc, value)?;
-            Ok(KStmt::Print(value.into_inner()))
-        }
+        TStatement::Simple(_, x, _) => simple(alloc, x),
+        _ => Ok(untaken()),
     }
 }
 
-#[tactic(auto, using(crate::proofs::Forms::conversions))]
-fn expression_of(alloc: Global, value: &JExpr) -> Result<Boxed<KExpr>, NoMemory>
+fn untaken() -> KStmt
+    ensures { result ≡ statement_by t.Untaken }
+{
+    KStmt::Print(KExpr::Number(0))
+}
+
+fn simple(alloc: Global, x: &TSimple) -> Result<KStmt, NoMemory>
+    ensures { IfOk result (λ made. made ≡ statement_by (t.simple_by x.now)) }
+{
+    match x {
+        TSimple::Locals(names) => match names.as_slice() {
+            [declared] => val_of(alloc, declared),
+            _ => Ok(untaken()),
+        },
+        TSimple::Value(value) => call_of(alloc, value),
+        _ => Ok(untaken()),
+    }
+}
+
+/// A local that is never assigned again is a `val`.
+fn val_of(alloc: Global, x: &TDeclarator) -> Result<KStmt, NoMemory>
+    ensures { IfOk result (λ made. made ≡ statement_by (t.declared_by x.now x.now.value)) }
+{
+    match &x.value {
+        Some(value) if is_int(&x.kind.kind) => {
+            let name = Name::from_str(alloc, x.name.as_str())?;
+            let value = expression_of(alloc, value)?;
+            Ok(KStmt::Val(name, value.into_inner()))
+        }
+        _ => Ok(untaken()),
+    }
+}
+
+/// `System.out.println` is `println`.
+fn call_of(alloc: Global, x: &TExpr) -> Result<KStmt, NoMemory>
+    ensures { IfOk result (λ made. made ≡ statement_by (t.called_by (out-TExpr x.now))) }
+{
+    match x {
+        TExpr::StaticCall {
+            member,
+            arguments,
+            ..
+        } if is_println(*member) => match arguments.as_slice() {
+            [value] => {
+                let value = expression_of(alloc, value)?;
+                Ok(KStmt::Print(value.into_inner()))
+            }
+            _ => Ok(untaken()),
+        },
+        _ => Ok(untaken()),
+    }
+}
+
+fn number_of(x: &Value) -> u32
+    ensures { result ≡ number_by x.now }
+{
+    match x {
+        Value::Number(Const::Int(number)) => number.unsigned_abs(),
+        _ => 0,
+    }
+}
+
+fn operator_of(op: Op2) -> Operator
+    ensures { result ≡ t.operator_of op }
+{
+    match op {
+        Op2::Add => Operator::Plus,
+        Op2::Sub => Operator::Minus,
+        _ => Operator::Times,
+    }
+}
+
+/// The same expression, with its parentheses; a zero stands for a form that isn't taken.
+#[tactic(auto, unfolding(meanings::specs::Convert::expression_of))]
+fn expression_of(alloc: Global, value: &TExpr) -> Result<Boxed<KExpr>, NoMemory>
     ensures { IfOk result (λ made. made ≡ expression_by value.now) }
 {
     match value {
-        JExpr::Local(name) => {
+        TExpr::Local(name, ..) => {
             let name = Name::from_str(alloc, name.as_str())?;
             Ok(Boxed::new(alloc, KExpr::Local(name))?)
         }
-        JExpr::Number(number) => Ok(Boxed::new(alloc, KExpr::Number(*number))?),
-        JExpr::Paren(inner) => {
+        TExpr::Literal(number, _) => Ok(Boxed::new(alloc, KExpr::Number(number_of(number)))?),
+        TExpr::Paren(_, inner) => {
             let inner = expression_of(alloc, inner.get())?;
             Ok(Boxed::new(alloc, KExpr::Paren(inner))?)
         }
-        JExpr::Binary(a, operator, b) => {
-            let a = expression_of(alloc, a.get())?;
-            let b = expression_of(alloc, b.get())?;
-            Ok(Boxed::new(alloc, KExpr::Binary(a, *operator, b))?)
+        TExpr::Binary {
+            left,
+            op,
+            right,
+            ..
+        } => {
+            let left = expression_of(alloc, left.get())?;
+            let right = expression_of(alloc, right.get())?;
+            Ok(Boxed::new(alloc, KExpr::Binary(left, operator_of(*op), right))?)
         }
+        _ => Ok(Boxed::new(alloc, KExpr::Number(0))?),
     }
 }

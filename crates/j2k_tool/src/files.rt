@@ -7,20 +7,22 @@ use j2k_base::{Fault, NoMemory, SourceFile, Stop, Text};
 use j2k_faults::not_built;
 use java_lexer::lex;
 use java_parser::parse;
-use java_taken::{Judged, Names, TypedFile, judge};
+use java_taken::{Judged, Names, judge};
 use java_tree::Tokens;
+use java_typed::TUnit;
 use java_unit_grammar::JUnit;
+use sqlite_items::Boxed;
 use std::alloc::Global;
 
-/// A file that is taken: its path, and its typed tree with the place of its class's name.
-#[derive(Debug, Drop)]
+/// A file that is taken: its path, and its typed tree.
+#[derive(Drop)]
 pub struct TakenFile {
     pub path: Text,
-    pub typed: TypedFile,
+    pub typed: Boxed<TUnit>,
 }
 
 /// What a file is found to be: one with a fault of its tokens, of their spelling, or with an open form, or one that is taken.
-#[derive(Debug, Drop)]
+#[derive(Drop)]
 pub enum Found {
     Tokens(Fault),
     Spelling(Fault),

@@ -1,12 +1,13 @@
 // The choices of a conversion, and the report on them.
 ghost use Rattle.std.specs.Prelude.{◌≡◌, ◌++◌, IfOk, OnOk};
 ghost use Rattle.std.specs.List.{flat_map};
-ghost use Rattle.j2k_tool.specs.Report.{kind_text as kind_text_by, choice_text, choice_line, companion, has_class as has_class_by, ReportText, Choices as choices_by};
+ghost use Rattle.j2k_tool.specs.Report.{kind_text as kind_text_by, choice_text, choice_line, companion, companions, has_class as has_class_by, ReportText, Choices as choices_by};
 
 use crate::files::TakenFile;
 use j2k_base::{Choice, ChoiceKind, Choices, Name, NoMemory, Place, Text};
 use j2k_faults::{push_number, push_place};
 use java_tree::Position;
+use java_typed::TClass;
 use std::alloc::Global;
 
 fn kind_text(kind: ChoiceKind) -> &'static str
@@ -29,7 +30,7 @@ fn kind_text(kind: ChoiceKind) -> &'static str
     }
 }
 
-/// A class with a static `main` has a companion.
+/// A class with a static method has a companion.
 pub fn push_choices_of(
     alloc: Global,
     choices: &mut Choices,
@@ -37,16 +38,29 @@ pub fn push_choices_of(
 ) -> Result<(), NoMemory>
     ensures { OnOk result (choices.new ≡ choices.old ++ choices_by taken.now) }
 {
-    let Some(at) = taken.typed.at else {
-        return Ok(());
-    };
-    let Some(class) = &taken.typed.file.class else {
-        return Ok(());
-    };
-    if class.main.is_none() {
+    match taken.typed.get().classes.as_slice() {
+        [] => Ok(()),
+        [class, ..] => push_companion(alloc, choices, &taken.path, class),
+    }
+}
+
+fn push_companion(
+    alloc: Global,
+    choices: &mut Choices,
+    path: &Text,
+    class: &TClass,
+) -> Result<(), NoMemory>
+    ensures { OnOk result (choices.new ≡ choices.old ++ companions path.now class.now) }
+{
+    if !class
+        .methods
+        .as_slice()
+        .iter()
+        .any(|method| method.modifiers.is_static)
+    {
         return Ok(());
     }
-    choices.push(companion_of(alloc, &taken.path, at, &class.name)?)
+    choices.push(companion_of(alloc, path, class.at, &class.name)?)
 }
 
 fn companion_of(alloc: Global, path: &Text, at: Position, name: &Name) -> Result<Choice, NoMemory>
@@ -71,7 +85,7 @@ fn companion_of(alloc: Global, path: &Text, at: Position, name: &Name) -> Result
 pub fn has_class(file: &TakenFile) -> bool
     ensures { result ≡ has_class_by file.now }
 {
-    file.typed.file.class.is_some()
+    !matches!(file.typed.get().classes.as_slice(), [])
 }
 
 /// The report on so many files and these choices.

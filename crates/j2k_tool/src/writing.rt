@@ -76,7 +76,7 @@ impl Conversion {
 fn kotlin_file(alloc: Global, taken: &TakenFile) -> Result<MadeFile, NoMemory>
     ensures { IfOk result (λ made. made ≡ kotlin_file_by taken.now) }
 {
-    let made = file_of(alloc, &taken.typed.file)?;
+    let made = file_of(alloc, taken.typed.get())?;
     let text = text_of(alloc, &made)?;
     let path = kotlin_path(alloc, taken.path.as_str())?;
     Ok(MadeFile { path, text })

@@ -5,7 +5,7 @@ use Rattle.java_tree.specs.declared.exprs.JExpr.TheOpen.{JExpr-F}
 use Rattle.java_tree.specs.Seen.{Tokens}
 use Rattle.java_tree.specs.Trees.{tokens, tokens_by}
 use Rattle.java_expr_grammar.proofs.LawsToCite.{tokens_out}
-use Rattle.meanings.specs.declared.java.JExpr.{JExpr as TExpr}
+use Rattle.java_typed.specs.declared.exprs.TExpr.{TExpr}
 use Rattle.java_taken.specs.Judged.{Judged}
 use Rattle.java_taken.specs.Places.{first_of, first_at}
 use Rattle.java_taken.specs.Expressions.{form_of, form_tokens, expression_by, expression}

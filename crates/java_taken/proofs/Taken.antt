@@ -1,5 +1,5 @@
 -- A unit that is taken is well typed, and its names are those of both languages.
-use Rattle.std.proofs.Common.{◌≡◌, ℕ, zero, suc, Bool, true, false, cond, ◌&&◌, ◌||◌, not, List, [], ◌∷◌, ◌++◌, map, length, Option, Some, None, refl, sym, ◌∙◌, ap, subst, arith}
+use Rattle.std.proofs.Common.{◌≡◌, ◌⊎◌, inl, inr, ℕ, zero, suc, Bool, true, false, cond, ◌&&◌, ◌||◌, not, List, [], ◌∷◌, ◌++◌, map, length, Option, Some, None, refl, sym, ◌∙◌, ap, subst, arith}
 use Rattle.std.specs.Prelude.{◌==◌, is_some, nat_lt, option_map, codes}
 use Rattle.std.specs.List.{list_any, AllByRecursion}
 use Rattle.std.specs.Str.{bytes_eq}
@@ -31,12 +31,26 @@ use Rattle.java_unit_grammar.specs.declared.statements.JStatement.{JStatement, o
 use Rattle.java_unit_grammar.specs.declared.statements.JBody.TheOpen.{JMember-F, JStatement-F}
 use Rattle.java_unit_grammar.specs.declared.units.JUnit.{JUnit}
 use Rattle.java_unit_grammar.specs.Standing.{Role, Owner, owner_of, Node, NodeStands, all_stand, block_stands, member_block, statement_stands, top_stands, file_stands, steps, TopStands, FileStands, UnitSpells}
-use Rattle.meanings.specs.declared.java.JExpr.{JExpr as TExpr}
-use Rattle.meanings.specs.declared.java.JStmt.{JStmt}
-use Rattle.meanings.specs.declared.java.JStmt.TheVariants.{Local, Print}
-use Rattle.meanings.specs.declared.java.JMain.{JMain}
-use Rattle.meanings.specs.declared.java.JClass.{JClass}
-use Rattle.meanings.specs.declared.java.JFile.{JFile}
+use Rattle.java_typed.specs.declared.types.ClassRef.TheVariants.{Library}
+use Rattle.java_typed.specs.declared.types.TResult.TheVariants as answer
+use Rattle.java_typed.specs.declared.types.TType.{TType, out-TType, out-roll-TType}
+use Rattle.java_typed.specs.declared.types.TType.TheOpen.{TType-F}
+use Rattle.java_typed.specs.declared.types.TType.TheVariants as ty
+use Rattle.java_typed.specs.declared.exprs.TExpr.{TExpr, out-TExpr, out-roll-TExpr}
+use Rattle.java_typed.specs.declared.exprs.TExpr.TheOpen.{TExpr-F}
+use Rattle.java_typed.specs.declared.exprs.TExpr.TheVariants as t
+use Rattle.java_typed.specs.declared.statements.TBody.{TBody}
+use Rattle.java_typed.specs.declared.statements.TBody.TheOpen.{TStatement-F}
+use Rattle.java_typed.specs.declared.statements.TCaseGroup.{TCaseGroup}
+use Rattle.java_typed.specs.declared.statements.TCatch.{TCatch}
+use Rattle.java_typed.specs.declared.statements.TSimple.{TSimple}
+use Rattle.java_typed.specs.declared.statements.TStatement.{TStatement, out-TStatement, out-roll-TStatement}
+use Rattle.java_typed.specs.declared.statements.TStatement.TheVariants as made
+use Rattle.java_typed.specs.declared.units.TMethod.{TMethod}
+use Rattle.java_typed.specs.declared.units.TClass.{TClass}
+use Rattle.java_typed.specs.declared.units.TUnit.{TUnit}
+use Rattle.meanings.specs.Taken as m
+use Rattle.meanings.specs.Taken.{is_taken, Statement, Declares, Prints, Untaken, MainMethod, MainClass}
 use Rattle.meanings.specs.declared.kotlin.KMain.{KMain}
 use Rattle.meanings.specs.declared.kotlin.KClass.{KClass}
 use Rattle.meanings.specs.Values.{same_name, is_among}
@@ -48,14 +62,13 @@ use Rattle.java_keywords.specs.Words.{word_kind}
 use Rattle.kotlin_words.specs.Words.{hard_keywords, reserved_names, contains_word}
 use Rattle.java_lib.specs.Library.{classes as library_classes}
 use Rattle.java_lib.specs.Classes.{class_simple}
-use Rattle.java_taken.specs.declared.judged.TypedFile.{TypedFile}
 use Rattle.java_taken.specs.Judged.{Judged, ◌>>=◌}
 use Rattle.java_taken.specs.Names.{is_plain, is_reserved, is_free, contains_name}
 use Rattle.java_taken.specs.Places.{statement_at, member_at}
-use Rattle.java_taken.specs.Expressions.{expression}
-use Rattle.java_taken.specs.Statements.{may_declare, is_out, is_int, printed, called, valued, declared, simple_of, statement_of, names_after, statement, statements}
+use Rattle.java_taken.specs.Expressions.{int_type, expression}
+use Rattle.java_taken.specs.Statements.{may_declare, is_out, is_int, printed, called, int_written, declares, println, prints, valued, declared, simple_of, statement_of, declared_by, with_declared, names_after, statement, statements}
 use Rattle.java_taken.specs.Units as u
-use Rattle.java_taken.proofs.Typing.{typed_is, bind_typed, if_typed, both, identifier, SameLocals, ArePlain, typed_expression}
+use Rattle.java_taken.proofs.Typing.{typed_is, bind_typed, if_typed, both, identifier, SameLocals, ArePlain, int_is, typed_expression}
 
 -- ---- names
 
@@ -127,65 +140,135 @@ plain_more names name plain is other among =
     by_test false true e f h = ap is_plain (equal_bytes other name f) ∙ is
     by_test false false e f h = cc
 
-after_new : (names : List (List ℕ)) (name : List ℕ) (e : TExpr) → contains_name names name ≡ false → names ++ name ∷ [] ≡ names_after names (Local name e)
-after_new names name e new = ap (λ b. cond b names (names ++ name ∷ [])) (sym new)
+-- ---- the trees that are made
+
+out_simple : (at : Position) (x : TSimple) (bodies : List TBody) → out-TStatement (made.Simple at x bodies) ≡ TStatement-F.Simple at x bodies
+out_simple at x bodies = ap out-TStatement (sym (made.rolls-Simple at x bodies)) ∙ out-roll-TStatement (TStatement-F.Simple at x bodies)
+
+simple_is : (at : Position) (x : TSimple) → m.statement (made.Simple at x []) ≡ m.simple_by x
+unfolding m.statement
+simple_is at x = ap m.statement_by (out_simple at x [])
+
+declares_is : (at : Position) (name : List ℕ) (name_at : Position) (e : TExpr) → m.statement (declares at name name_at e) ≡ Declares name e
+declares_is at name name_at e = simple_is at _ ∙ ap (λ b. cond b (Declares name e) Untaken) int_is
+
+out_call : (at name_at : Position) (e : TExpr) → out-TExpr (t.StaticCall at println name_at (e ∷ []) answer.Void) ≡ TExpr-F.StaticCall at println name_at (e ∷ []) answer.Void
+out_call at name_at e = ap out-TExpr (sym (t.rolls-StaticCall at println name_at (e ∷ []) answer.Void)) ∙ out-roll-TExpr (TExpr-F.StaticCall at println name_at (e ∷ []) answer.Void)
+
+println_is : m.is_println println ≡ true
+unfolding m.is_println
+println_is = refl
+
+prints_is : (at name_at : Position) (e : TExpr) → m.statement (prints at name_at e) ≡ Prints e
+prints_is at name_at e = simple_is at _ ∙ ap m.called_by (out_call at name_at e) ∙ ap (λ b. cond b (Prints e) Untaken) println_is
+
+string_is : m.is_string (ty.Class (Library 1) []) ≡ true
+unfolding m.is_string
+string_is = ap m.is_string (sym (ty.rolls-Class (Library 1) [])) ∙ ap m.is_string_by (out-roll-TType (TType-F.Class (Library 1) []))
+
+strings_are : m.is_strings u.strings_type ≡ true
+unfolding m.is_strings
+strings_are = ap m.is_strings (sym (ty.rolls-Array (ty.Class (Library 1) []))) ∙ ap m.is_strings_by (out-roll-TType (TType-F.Array (ty.Class (Library 1) []))) ∙ string_is
+
+main_is : (first at : Position) (x : JTypedParam) (body : List TStatement) (closes : Position) →
+    m.main_of_method (u.main_method first at x body closes) ≡ Some (record { parameter = x.name; body = map m.statement body })
+main_is first at x body closes = ap (λ b. m.main_with (cond b (Some x.name) None) (Some (record { statements = body; closes = closes }))) strings_are
+
+after_declares : (names : List (List ℕ)) (at : Position) (name : List ℕ) (name_at : Position) (e : TExpr) → names_after names (declares at name name_at e) ≡ cond (contains_name names name) names (names ++ name ∷ [])
+unfolding names_after
+after_declares names at name name_at e = ap (λ y. with_declared names (declared_by y)) (out_simple at _ [])
+
+after_prints : (names : List (List ℕ)) (at name_at : Position) (e : TExpr) → names_after names (prints at name_at e) ≡ names
+unfolding names_after
+after_prints names at name_at e = ap (λ y. with_declared names (declared_by y)) (out_simple at _ [])
+
+after_new : (names : List (List ℕ)) (at : Position) (name : List ℕ) (name_at : Position) (e : TExpr) → contains_name names name ≡ false → names ++ name ∷ [] ≡ names_after names (declares at name name_at e)
+after_new names at name name_at e new = ap (λ b. cond b names (names ++ name ∷ [])) (sym new) ∙ sym (after_declares names at name name_at e)
 
 -- ---- statements
 
--- what a statement owes after the locals
-abbrev Owes : List ℕ → List (List ℕ) → JStmt → Type 0
-Owes parameter locals (Local name e) =
-    Free name × (same_name parameter name ≡ false) × (is_among locals name ≡ false) × Knows locals e × IsNamed e
-Owes parameter locals (Print e) = Knows locals e × IsNamed e
+-- what a declaration owes after the locals
+record IsDeclared (parameter : List ℕ) (locals : List (List ℕ)) (s : TStatement) : Type 0 where
+  at : Position
+  name : List ℕ
+  name_at : Position
+  value : TExpr
+  is : declares at name name_at value ≡ s
+  free : Free name
+  differs : same_name parameter name ≡ false
+  new : is_among locals name ≡ false
+  known : Knows locals value
+  named : IsNamed value
+  taken : is_taken value ≡ true
+
+-- what a print owes after the locals
+record IsPrinted (locals : List (List ℕ)) (s : TStatement) : Type 0 where
+  at : Position
+  name_at : Position
+  value : TExpr
+  is : prints at name_at value ≡ s
+  known : Knows locals value
+  named : IsNamed value
+  taken : is_taken value ≡ true
+
+abbrev Owes : List ℕ → List (List ℕ) → TStatement → Type 0
+Owes parameter locals s = IsDeclared parameter locals s ⊎ IsPrinted locals s
 
 -- what the statements of a body owe
-record Body (parameter : List ℕ) (locals : List (List ℕ)) (body : List JStmt) : Type 0 where
+record Body (parameter : List ℕ) (locals : List (List ℕ)) (body : List Statement) : Type 0 where
   typed : AreTyped parameter locals body
   named : AreNamed body
   keywords : DeclareNoKeyword (map to.statement_of body)
+  taken : m.are_taken body ≡ true
 
 module _ (classes : List (List ℕ)) (parameter : List ℕ) where
   module _ (locals names : List (List ℕ)) (same : SameLocals locals names) (plain : ArePlain names) (at : Position) where
-    typed_valued : (d : ℕ) (x : JDeclarator) (o : Option JValue) → value_stands d o → (s : JStmt) → valued classes parameter names at x o ≡ Judged.Typed s → Owes parameter locals s
+    typed_valued : (d : ℕ) (x : JDeclarator) (o : Option JValue) → value_stands d o → (s : TStatement) → valued classes parameter names at x o ≡ Judged.Typed s → Owes parameter locals s
     typed_valued d x None stands s is = absurd (cc is)
     typed_valued d x (Some value) stands s is =
-        let parts = if_typed (may_declare classes parameter names x.name) (expression names value.tree >>= (λ e. Judged.Typed (Local x.name e))) x.at s is in
-        let first = bind_typed (expression names value.tree) (λ e. Judged.Typed (Local x.name e)) s parts.1 in
+        let parts = if_typed (may_declare classes parameter names x.name) (expression names value.tree >>= (λ e. Judged.Typed (declares at x.name x.at e))) x.at s is in
+        let first = bind_typed (expression names value.tree) (λ e. Judged.Typed (declares at x.name x.at e)) s parts.1 in
         let good = typed_expression locals names same plain d 0 value.tree stands first.0 first.1 in
         let last = both (is_free x.name && not (contains_name classes x.name) && not (bytes_eq x.name parameter)) (not (contains_name names x.name)) parts.0 in
         let before = both (is_free x.name && not (contains_name classes x.name)) (not (bytes_eq x.name parameter)) last.0 in
         let start = both (is_free x.name) (not (contains_name classes x.name)) before.0 in
-        subst (Owes parameter locals) (typed_is _ _ first.2) (
-          free x.name start.0,
-          same_bytes parameter x.name ∙ not_true (bytes_eq x.name parameter) before.1,
-          same x.name ∙ not_true (contains_name names x.name) last.1,
-          good.known,
-          good.named,
-        )
+        inl (record {
+          at = at;
+          name = x.name;
+          name_at = x.at;
+          value = first.0;
+          is = typed_is _ _ first.2;
+          free = free x.name start.0;
+          differs = same_bytes parameter x.name ∙ not_true (bytes_eq x.name parameter) before.1;
+          new = same x.name ∙ not_true (contains_name names x.name) last.1;
+          known = good.known;
+          named = good.named;
+          taken = good.taken;
+        })
 
-    typed_declarator : (d : ℕ) (x : JDeclarator) → DeclaratorStands d x → (s : JStmt) → valued classes parameter names at x x.value ≡ Judged.Typed s → Owes parameter locals s
+    typed_declarator : (d : ℕ) (x : JDeclarator) → DeclaratorStands d x → (s : TStatement) → valued classes parameter names at x x.value ≡ Judged.Typed s → Owes parameter locals s
     unfolding DeclaratorStands
     typed_declarator zero x stands s is = absurd stands
     typed_declarator (suc d) x stands s is = typed_valued d x x.value stands s is
 
-    typed_declared : (d : ℕ) (o : Option Position) (b : Bool) (xs : List JDeclarator) → AllByRecursion (DeclaratorStands d) xs → (s : JStmt) → declared classes parameter names at o b xs ≡ Judged.Typed s → Owes parameter locals s
+    typed_declared : (d : ℕ) (o : Option Position) (b : Bool) (xs : List JDeclarator) → AllByRecursion (DeclaratorStands d) xs → (s : TStatement) → declared classes parameter names at o b xs ≡ Judged.Typed s → Owes parameter locals s
     typed_declared d None true (x ∷ []) all s is = typed_declarator d x all.0 s is
     typed_declared d None true [] all s is = absurd (cc is)
     typed_declared d None true (x ∷ y ∷ xs) all s is = absurd (cc is)
     typed_declared d None false xs all s is = absurd (cc is)
     typed_declared d (Some final_at) b xs all s is = absurd (cc is)
 
-    typed_printed : (d : ℕ) (xs : List JExpr) → AllByRecursion (Stands d any_level) xs → (s : JStmt) → printed names at xs ≡ Judged.Typed s → Owes parameter locals s
-    typed_printed d [] all s is = absurd (cc is)
-    typed_printed d (x ∷ y ∷ xs) all s is = absurd (cc is)
-    typed_printed d (x ∷ []) all s is =
-        let first = bind_typed (expression names x) (λ e. Judged.Typed (Print e)) s is in
+    typed_printed : (d : ℕ) (name_at : Position) (xs : List JExpr) → AllByRecursion (Stands d any_level) xs → (s : TStatement) → printed names at name_at xs ≡ Judged.Typed s → Owes parameter locals s
+    typed_printed d name_at [] all s is = absurd (cc is)
+    typed_printed d name_at (x ∷ y ∷ xs) all s is = absurd (cc is)
+    typed_printed d name_at (x ∷ []) all s is =
+        let first = bind_typed (expression names x) (λ e. Judged.Typed (prints at name_at e)) s is in
         let good = typed_expression locals names same plain d any_level x all.0 first.0 first.1 in
-        subst (Owes parameter locals) (typed_is _ _ first.2) (good.known, good.named)
+        inr (record { at = at; name_at = name_at; value = first.0; is = typed_is _ _ first.2; known = good.known; named = good.named; taken = good.taken })
 
-    typed_called : (d : ℕ) (x : JExpr-F JExpr) → stands_by d (TypeStands d) (TypedStands d) (Stands d) x → (s : JStmt) → called names at x ≡ Judged.Typed s → Owes parameter locals s
+    typed_called : (d : ℕ) (x : JExpr-F JExpr) → stands_by d (TypeStands d) (TypedStands d) (Stands d) x → (s : TStatement) → called names at x ≡ Judged.Typed s → Owes parameter locals s
     typed_called d (JExpr-F.Method left dot n call_at lp args commas rp) h s is =
-        let parts = if_typed (is_out left && bytes_eq n (codes "println")) (printed names at args) at s is in typed_printed d args h.2 s parts.1
+        let parts = if_typed (is_out left && bytes_eq n (codes "println")) (printed names at call_at args) at s is in typed_printed d call_at args h.2 s parts.1
     typed_called d (JExpr-F.Name n name_at) h s is = absurd (cc is)
     typed_called d (JExpr-F.Literal x literal_at) h s is = absurd (cc is)
     typed_called d (JExpr-F.Paren lp x rp) h s is = absurd (cc is)
@@ -209,12 +292,12 @@ module _ (classes : List (List ℕ)) (parameter : List ℕ) where
     typed_called d (JExpr-F.NewFilled new_at of brackets lc inits commas more rc) h s is = absurd (cc is)
     typed_called d (JExpr-F.Braces lc inits commas more rc) h s is = absurd (cc is)
 
-    typed_call : (d : ℕ) (x : JExpr) → Stands d any_level x → (s : JStmt) → called names at (out-JExpr x) ≡ Judged.Typed s → Owes parameter locals s
+    typed_call : (d : ℕ) (x : JExpr) → Stands d any_level x → (s : TStatement) → called names at (out-JExpr x) ≡ Judged.Typed s → Owes parameter locals s
     unfolding Stands
     typed_call zero x stands s is = absurd stands
     typed_call (suc d) x stands s is = typed_called d (out-JExpr x) stands.1 s is
 
-    typed_simple : (d : ℕ) (x : JSimple) → SimpleStands d x → (s : JStmt) → simple_of classes parameter names at x ≡ Judged.Typed s → Owes parameter locals s
+    typed_simple : (d : ℕ) (x : JSimple) → SimpleStands d x → (s : TStatement) → simple_of classes parameter names at x ≡ Judged.Typed s → Owes parameter locals s
     typed_simple d (simple.Declaration x) stands s is = typed_declared d x.is_final (is_int x.kind) x.names stands.all s is
     typed_simple d (simple.Expression x) stands s is = typed_call d x stands.stands s is
     typed_simple d simple.Empty stands s is = absurd (cc is)
@@ -225,7 +308,7 @@ module _ (classes : List (List ℕ)) (parameter : List ℕ) where
     typed_simple d (simple.ThisCall call_at lp args commas rp) stands s is = absurd (cc is)
     typed_simple d (simple.SuperCall call_at lp args commas rp) stands s is = absurd (cc is)
 
-    typed_form : (P : ℕ → Node → Type 0) (d : ℕ) (x : JStatement-F JBody JMember JStatement JCase JCaseGroup JCatch) → statement_stands P d Role.Inner x → (s : JStmt)
+    typed_form : (P : ℕ → Node → Type 0) (d : ℕ) (x : JStatement-F JBody JMember JStatement JCase JCaseGroup JCatch) → statement_stands P d Role.Inner x → (s : TStatement)
         → statement_of classes parameter names at x ≡ Judged.Typed s → Owes parameter locals s
     typed_form P d (JStatement-F.Simple x bodies end) stands s is = typed_simple d x stands.1 s is
     typed_form P d (JStatement-F.Block left xs right) stands s is = absurd (cc is)
@@ -240,7 +323,7 @@ module _ (classes : List (List ℕ)) (parameter : List ℕ) where
     typed_form P d (JStatement-F.Try try_at left xs right catches) stands s is = absurd (cc is)
     typed_form P d (JStatement-F.TryFinally try_at left xs right catches finally_at last_left lasts last_right) stands s is = absurd (cc is)
 
-  typed_statement : (locals names : List (List ℕ)) → SameLocals locals names → ArePlain names → (n d : ℕ) (x : JStatement) → NodeStands n d (Node.Statement Role.Inner x) → (s : JStmt)
+  typed_statement : (locals names : List (List ℕ)) → SameLocals locals names → ArePlain names → (n d : ℕ) (x : JStatement) → NodeStands n d (Node.Statement Role.Inner x) → (s : TStatement)
       → statement classes parameter names x ≡ Judged.Typed s → Owes parameter locals s
   unfolding NodeStands statement
   typed_statement locals names same plain zero d x stands s is = absurd stands
@@ -248,138 +331,154 @@ module _ (classes : List (List ℕ)) (parameter : List ℕ) where
   typed_statement locals names same plain (suc n) (suc d) x stands s is =
       typed_form locals names same plain (statement_at x) (NodeStands n) d (out-JStatement x) stands s is
 
-  typed_more : (locals names : List (List ℕ)) (s : JStmt) (more : List JStmt) → SameLocals locals names → ArePlain names → Owes parameter locals s
-      → ((after : List (List ℕ)) → SameLocals after (names_after names s) → ArePlain (names_after names s) → Body parameter after more) → Body parameter locals (s ∷ more)
-  typed_more locals names (Local name e) more same plain owes rest =
-      let new = sym (same name) ∙ owes.2 in
-      let next = after_new names name e new in
-      let b = rest (name ∷ locals) (subst (SameLocals (name ∷ locals)) next (one_more locals names name same)) (subst ArePlain next (plain_more names name plain owes.0.plain)) in
-      record {
-        typed = (owes.1, owes.2, owes.3, b.typed);
-        named = (owes.0.identifies, owes.4, b.named);
-        keywords = (owes.0.keyword, b.keywords);
-      }
-  typed_more locals names (Print e) more same plain owes rest =
-      let b = rest locals same plain in
-      record { typed = (owes.0, b.typed); named = (owes.1, b.named); keywords = b.keywords }
+  typed_more : (locals names : List (List ℕ)) (s : TStatement) (more : List Statement) → SameLocals locals names → ArePlain names → Owes parameter locals s
+      → ((after : List (List ℕ)) → SameLocals after (names_after names s) → ArePlain (names_after names s) → Body parameter after more) → Body parameter locals (m.statement s ∷ more)
+  typed_more locals names s more same plain (inl owes) rest =
+      let absent : contains_name names owes.name ≡ false = sym (same owes.name) ∙ owes.new in
+      let next : names ++ owes.name ∷ [] ≡ names_after names s = after_new names owes.at owes.name owes.name_at owes.value absent ∙ ap (names_after names) owes.is in
+      let b = rest (owes.name ∷ locals) (subst (SameLocals (owes.name ∷ locals)) next (one_more locals names owes.name same)) (subst ArePlain next (plain_more names owes.name plain owes.free.plain)) in
+      let seen : Declares owes.name owes.value ≡ m.statement s = sym (declares_is owes.at owes.name owes.name_at owes.value) ∙ ap m.statement owes.is in
+      subst (λ (x : Statement). Body parameter locals (x ∷ more)) seen (record {
+        typed = (owes.differs, owes.new, owes.known, b.typed);
+        named = (owes.free.identifies, owes.named, b.named);
+        keywords = (owes.free.keyword, b.keywords);
+        taken = rw (owes.taken, b.taken) refl;
+      })
+  typed_more locals names s more same plain (inr owes) rest =
+      let next : names ≡ names_after names s = sym (after_prints names owes.at owes.name_at owes.value) ∙ ap (names_after names) owes.is in
+      let b = rest locals (subst (SameLocals locals) next same) (subst ArePlain next plain) in
+      let seen : Prints owes.value ≡ m.statement s = sym (prints_is owes.at owes.name_at owes.value) ∙ ap m.statement owes.is in
+      subst (λ (x : Statement). Body parameter locals (x ∷ more)) seen (record { typed = (owes.known, b.typed); named = (owes.named, b.named); keywords = b.keywords; taken = rw (owes.taken, b.taken) refl })
 
-  typed_body : (n d : ℕ) (locals names : List (List ℕ)) → SameLocals locals names → ArePlain names → (xs : List JStatement) → all_stand (NodeStands n) d Role.Inner xs → (body : List JStmt)
-      → statements classes parameter names xs ≡ Judged.Typed body → Body parameter locals body
-  typed_body n d locals names same plain [] stands body is = subst (Body parameter locals) (typed_is _ _ is) (record { typed = tt; named = tt; keywords = tt })
+  typed_body : (n d : ℕ) (locals names : List (List ℕ)) → SameLocals locals names → ArePlain names → (xs : List JStatement) → all_stand (NodeStands n) d Role.Inner xs → (body : List TStatement)
+      → statements classes parameter names xs ≡ Judged.Typed body → Body parameter locals (map m.statement body)
+  typed_body n d locals names same plain [] stands body is =
+      subst (λ (body : List TStatement). Body parameter locals (map m.statement body)) (typed_is _ _ is) (record { typed = tt; named = tt; keywords = tt; taken = refl })
   typed_body n d locals names same plain (x ∷ xs) stands body is =
       let first = bind_typed (statement classes parameter names x) (λ s. statements classes parameter (names_after names s) xs >>= λ more. Judged.Typed (s ∷ more)) body is in
       let second = bind_typed (statements classes parameter (names_after names first.0) xs) (λ more. Judged.Typed (first.0 ∷ more)) body first.2 in
-      subst (Body parameter locals) (typed_is _ _ second.2) (typed_more locals names first.0 second.0 same plain (typed_statement locals names same plain n d x stands.0 first.0 first.1)
+      subst (λ (body : List TStatement). Body parameter locals (map m.statement body)) (typed_is _ _ second.2)
+      (typed_more locals names first.0 (map m.statement second.0) same plain (typed_statement locals names same plain n d x stands.0 first.0 first.1)
       (λ after same plain. typed_body n d after (names_after names first.0) same plain xs stands.1 second.0 second.1))
 
-  body_typed : (n d : ℕ) (xs : List JStatement) → block_stands (NodeStands n) d xs → (body : List JStmt) → statements classes parameter [] xs ≡ Judged.Typed body → Body parameter [] body
+  body_typed : (n d : ℕ) (xs : List JStatement) → block_stands (NodeStands n) d xs → (body : List TStatement) → statements classes parameter [] xs ≡ Judged.Typed body → Body parameter [] (map m.statement body)
   body_typed n zero xs stands body is = absurd stands
   body_typed n (suc d) xs stands body is = typed_body n d [] [] (λ name. refl) (λ name among. cc) xs stands body is
 
 -- ---- members
 
-abbrev to_main : Option JMain → Option KMain
+abbrev to_main : Option MainMethod → Option KMain
 to_main = option_map to.main_of
 
-abbrev to_class : Option JClass → Option KClass
+abbrev to_class : Option MainClass → Option KClass
 to_class = option_map to.class_of
 
-abbrev class_in : Option u.Placed → Option JClass
-class_in None = None
-class_in (Some c) = Some c.0
-
-record MainGood (main : JMain) : Type 0 where
+record MainGood (method : TMethod) : Type 0 where
+  main : MainMethod
+  is : m.main_of_method method ≡ Some main
   free : Free main.parameter
   body : Body main.parameter [] main.body
 
+-- what methods, one at most, owe
+record Mains (ms : List TMethod) : Type 0 where
+  typed : MainIsTyped (m.main_in ms)
+  named : MainIsNamed (m.main_in ms)
+  keywords : MainHasNoKeyword (to_main (m.main_in ms))
+  taken : m.are_taken_methods ms ≡ true
+
+mains_of : (method : TMethod) → MainGood method → Mains (method ∷ [])
+mains_of method good = record {
+  typed = subst MainIsTyped (sym good.is) good.body.typed;
+  named = subst MainIsNamed (sym good.is) (good.free.identifies, good.body.named);
+  keywords = subst (λ (o : Option MainMethod). MainHasNoKeyword (to_main o)) (sym good.is) (good.free.keyword, good.body.keywords);
+  taken = ap m.is_taken_main good.is ∙ good.body.taken;
+}
+
 module _ (classes : List (List ℕ)) where
-  typed_main : (n d : ℕ) (x : JTypedParam) (xs : List JStatement) → block_stands (NodeStands n) d xs → (main : JMain) → u.main_of classes x xs ≡ Judged.Typed main → MainGood main
-  typed_main n d x xs stands main is =
-      let parts = if_typed (is_free x.name && not (contains_name classes x.name)) (statements classes x.name [] xs >>= λ body. Judged.Typed (record { parameter = x.name; body = body })) x.at main is in
-      let first = bind_typed (statements classes x.name [] xs) (λ body. Judged.Typed (record { parameter = x.name; body = body })) main parts.1 in
-      subst MainGood (typed_is _ _ first.2) (record {
+  typed_main : (n d : ℕ) (first at : Position) (x : JTypedParam) (xs : List JStatement) (closes : Position) → block_stands (NodeStands n) d xs → (main : TMethod) → u.main_of classes first at x xs closes ≡ Judged.Typed main → MainGood main
+  typed_main n d first at x xs closes stands main is =
+      let parts = if_typed (is_free x.name && not (contains_name classes x.name)) (statements classes x.name [] xs >>= λ body. Judged.Typed (u.main_method first at x body closes)) x.at main is in
+      let found = bind_typed (statements classes x.name [] xs) (λ body. Judged.Typed (u.main_method first at x body closes)) main parts.1 in
+      subst MainGood (typed_is _ _ found.2) (record {
+        main = record { parameter = x.name; body = map m.statement found.0 };
+        is = main_is first at x found.0 closes;
         free = free x.name (both (is_free x.name) (not (contains_name classes x.name)) parts.0).0;
-        body = body_typed classes x.name n d xs stands first.0 first.1;
+        body = body_typed classes x.name n d xs stands found.0 found.1;
       })
 
-  typed_bodied : (n d : ℕ) (at : Position) (o : Option JTypedParam) (xs : List JStatement) → block_stands (NodeStands n) d xs → (main : JMain) → u.bodied classes at o xs ≡ Judged.Typed main → MainGood main
-  typed_bodied n d at None xs stands main is = absurd (cc is)
-  typed_bodied n d at (Some x) xs stands main is = typed_main n d x xs stands main is
+  typed_bodied : (n d : ℕ) (first at : Position) (o : Option JTypedParam) (xs : List JStatement) (closes : Position) → block_stands (NodeStands n) d xs → (main : TMethod) → u.bodied classes first at o xs closes ≡ Judged.Typed main → MainGood main
+  typed_bodied n d first at None xs closes stands main is = absurd (cc is)
+  typed_bodied n d first at (Some x) xs closes stands main is = typed_main n d first at x xs closes stands main is
 
-  typed_head : (n d : ℕ) (at : Position) (h : JMemberHead) (xs : List JStatement) → member_block (NodeStands n) d h xs → (main : JMain) → u.bodied classes at (u.main_parameter h) xs ≡ Judged.Typed main → MainGood main
-  typed_head n d at (head.Method mods params answer name name_at formals throws) xs stands main is =
-      typed_bodied n d at (u.main_parameter (head.Method mods params answer name name_at formals throws)) xs stands main is
-  typed_head n d at head.Empty xs stands main is = absurd (cc is)
-  typed_head n d at (head.Field mods x) xs stands main is = absurd (cc is)
-  typed_head n d at (head.Constructor mods name name_at formals throws) xs stands main is = absurd (cc is)
-  typed_head n d at (head.Initializer static) xs stands main is = absurd (cc is)
+  typed_head : (n d : ℕ) (at : Position) (h : JMemberHead) (xs : List JStatement) (closes : Position) → member_block (NodeStands n) d h xs → (main : TMethod) → u.bodied classes at (u.name_place h) (u.main_parameter h) xs closes ≡ Judged.Typed main → MainGood main
+  typed_head n d at (head.Method mods params answer name name_at formals throws) xs closes stands main is =
+      typed_bodied n d at name_at (u.main_parameter (head.Method mods params answer name name_at formals throws)) xs closes stands main is
+  typed_head n d at head.Empty xs closes stands main is = absurd (cc is)
+  typed_head n d at (head.Field mods x) xs closes stands main is = absurd (cc is)
+  typed_head n d at (head.Constructor mods name name_at formals throws) xs closes stands main is = absurd (cc is)
+  typed_head n d at (head.Initializer static) xs closes stands main is = absurd (cc is)
 
-  member_form : (n : ℕ) (owner : Owner) (at : Position) (x : JMember-F JBody JMember JStatement JCase JCaseGroup JCatch) → top_stands (NodeStands steps) (TopStands n) owner x → (main : JMain)
+  member_form : (n : ℕ) (owner : Owner) (at : Position) (x : JMember-F JBody JMember JStatement JCase JCaseGroup JCatch) → top_stands (NodeStands steps) (TopStands n) owner x → (main : TMethod)
       → u.member_of classes at x ≡ Judged.Typed main → MainGood main
-  member_form n owner at (JMember-F.Bodied h left xs right) stands main is = typed_head steps 200 at h xs stands.2 main is
+  member_form n owner at (JMember-F.Bodied h left xs right) stands main is = typed_head steps 200 at h xs right stands.2 main is
   member_form n owner at (JMember-F.Declared h bodies end) stands main is = absurd (cc is)
   member_form n owner at (JMember-F.Type h left constants bodies members right) stands main is = absurd (cc is)
 
-  typed_member : (n : ℕ) (owner : Owner) (x : JMember) → TopStands n owner x → (main : JMain) → u.member classes x ≡ Judged.Typed main → MainGood main
+  typed_member : (n : ℕ) (owner : Owner) (x : JMember) → TopStands n owner x → (main : TMethod) → u.member classes x ≡ Judged.Typed main → MainGood main
   unfolding TopStands u.member
   typed_member zero owner x stands main is = absurd stands
   typed_member (suc n) owner x stands main is = member_form n owner (member_at x) (out-JMember x) stands main is
 
-  -- what an optional `main` owes
-  record Mains (o : Option JMain) : Type 0 where
-    typed : MainIsTyped o
-    named : MainIsNamed o
-    keywords : MainHasNoKeyword (to_main o)
-
-  typed_members : (n : ℕ) (owner : Owner) (xs : List JMember) → AllByRecursion (TopStands n owner) xs → (o : Option JMain) → u.members classes xs ≡ Judged.Typed o → Mains o
-  typed_members n owner [] all o is = subst Mains (typed_is _ _ is) (record { typed = tt; named = tt; keywords = tt })
-  typed_members n owner (x ∷ []) all o is =
-      let first = bind_typed (u.member classes x) (λ main. Judged.Typed (Some main)) o is in
-      let good = typed_member n owner x all.0 first.0 first.1 in
-      subst Mains (typed_is _ _ first.2) (record { typed = good.body.typed; named = (good.free.identifies, good.body.named); keywords = (good.free.keyword, good.body.keywords) })
-  typed_members n owner (x ∷ y ∷ xs) all o is =
-      let first = bind_typed (u.member classes x) (λ main. Judged.Open (member_at y)) o is in absurd (cc (first.2))
+  typed_members : (n : ℕ) (owner : Owner) (xs : List JMember) → AllByRecursion (TopStands n owner) xs → (ms : List TMethod) → u.members classes xs ≡ Judged.Typed ms → Mains ms
+  typed_members n owner [] all ms is = subst Mains (typed_is _ _ is) (record { typed = tt; named = tt; keywords = tt; taken = refl })
+  typed_members n owner (x ∷ []) all ms is =
+      let first = bind_typed (u.member classes x) (λ main. Judged.Typed (main ∷ [])) ms is in
+      subst Mains (typed_is _ _ first.2) (mains_of first.0 (typed_member n owner x all.0 first.0 first.1))
+  typed_members n owner (x ∷ y ∷ xs) all ms is =
+      let first = bind_typed (u.member classes x) (λ main. Judged.Open (member_at y)) ms is in absurd (cc (first.2))
 
 -- ---- classes
 
-record Classes (o : Option JClass) : Type 0 where
-  typed : ClassIsTyped o
-  named : ClassIsNamed o
-  keywords : ClassHasNoKeyword (to_class o)
+-- what classes, one at most, owe
+record Classes (cs : List TClass) : Type 0 where
+  typed : ClassIsTyped (m.class_among cs)
+  named : ClassIsNamed (m.class_among cs)
+  keywords : ClassHasNoKeyword (to_class (m.class_among cs))
+  taken : m.are_taken_classes cs ≡ true
 
 module _ (classes earlier : List (List ℕ)) (path : List ℕ) where
-  typed_named : (n : ℕ) (owner : Owner) (name : List ℕ) (at : Position) (xs : List JMember) → AllByRecursion (TopStands n owner) xs → (c : u.Placed) → u.named classes earlier path name at xs ≡ Judged.Typed c
-      → Classes (Some c.0)
-  typed_named n owner name at xs all c is =
-      let parts = if_typed (u.may_name earlier path name) (u.class_of classes name at xs) at c is in
-      let first = bind_typed (u.members classes xs) (λ main. Judged.Typed (record { name = name; main = main }, at)) c parts.1 in
+  typed_named : (n : ℕ) (owner : Owner) (place : Position) (name : List ℕ) (at : Position) (xs : List JMember) → AllByRecursion (TopStands n owner) xs → (c : TClass) → u.named classes earlier path place name at xs ≡ Judged.Typed c
+      → Classes (c ∷ [])
+  typed_named n owner place name at xs all c is =
+      let parts = if_typed (u.may_name earlier path name) (u.class_of classes place name at xs) at c is in
+      let first = bind_typed (u.members classes xs) (λ methods. Judged.Typed (u.class_with place name at methods)) c parts.1 in
       let mains = typed_members classes n owner xs all first.0 first.1 in
       let new = both (is_free name && not (contains_name earlier name)) (u.is_file_of path name) parts.0 in
       let f = free name (both (is_free name) (not (contains_name earlier name)) new.0).0 in
-      subst (λ (c : u.Placed). Classes (Some c.0)) (typed_is _ _ first.2) (record { typed = mains.typed; named = (f.identifies, mains.named); keywords = (f.keyword, mains.keywords) })
+      subst (λ (c : TClass). Classes (c ∷ [])) (typed_is _ _ first.2) (record { typed = mains.typed; named = (f.identifies, mains.named); keywords = (f.keyword, mains.keywords); taken = rw mains.taken refl })
 
-  typed_headed : (n : ℕ) (owner : Owner) (at : Position) (o : Option u.Named) (xs : List JMember) → AllByRecursion (TopStands n owner) xs → (c : u.Placed) → u.headed classes earlier path at o xs ≡ Judged.Typed c
-      → Classes (Some c.0)
+  typed_headed : (n : ℕ) (owner : Owner) (at : Position) (o : Option u.Named) (xs : List JMember) → AllByRecursion (TopStands n owner) xs → (c : TClass) → u.headed classes earlier path at o xs ≡ Judged.Typed c
+      → Classes (c ∷ [])
   typed_headed n owner at None xs all c is = absurd (cc is)
-  typed_headed n owner at (Some x) xs all c is = typed_named n owner x.0 x.1 xs all c is
+  typed_headed n owner at (Some x) xs all c is = typed_named n owner at x.0 x.1 xs all c is
 
-  typed_top_form : (n : ℕ) (at : Position) (x : JMember-F JBody JMember JStatement JCase JCaseGroup JCatch) → file_stands (NodeStands steps) (TopStands n) x → (c : u.Placed) → u.top_of classes earlier path at x ≡ Judged.Typed c
-      → Classes (Some c.0)
+  typed_top_form : (n : ℕ) (at : Position) (x : JMember-F JBody JMember JStatement JCase JCaseGroup JCatch) → file_stands (NodeStands steps) (TopStands n) x → (c : TClass) → u.top_of classes earlier path at x ≡ Judged.Typed c
+      → Classes (c ∷ [])
   typed_top_form n at (JMember-F.Type h left constants bodies xs right) stands c is = typed_headed n (owner_of h) at (u.class_named h) xs stands.4 c is
   typed_top_form n at (JMember-F.Declared h bodies end) stands c is = absurd (cc is)
   typed_top_form n at (JMember-F.Bodied h left xs right) stands c is = absurd (cc is)
 
-  typed_top : (n : ℕ) (x : JMember) → FileStands n x → (c : u.Placed) → u.top classes earlier path x ≡ Judged.Typed c → Classes (Some c.0)
+  typed_top : (n : ℕ) (x : JMember) → FileStands n x → (c : TClass) → u.top classes earlier path x ≡ Judged.Typed c → Classes (c ∷ [])
   unfolding u.top
   typed_top n x stands c is = typed_top_form n (member_at x) (out-JMember x) stands c is
 
-  typed_types : (n : ℕ) (xs : List JMember) → AllByRecursion (FileStands n) xs → (o : Option u.Placed) → u.types classes earlier path xs ≡ Judged.Typed o → Classes (class_in o)
-  typed_types n [] all o is = subst (λ (o : Option u.Placed). Classes (class_in o)) (typed_is _ _ is) (record { typed = tt; named = tt; keywords = tt })
-  typed_types n (x ∷ []) all o is =
-      let first = bind_typed (u.top classes earlier path x) (λ class. Judged.Typed (Some class)) o is in
-      subst (λ (o : Option u.Placed). Classes (class_in o)) (typed_is _ _ first.2) (typed_top n x all.0 first.0 first.1)
-  typed_types n (x ∷ y ∷ xs) all o is =
-      let first = bind_typed (u.top classes earlier path x) (λ class. Judged.Open (member_at y)) o is in absurd (cc (first.2))
+  typed_types : (n : ℕ) (xs : List JMember) → AllByRecursion (FileStands n) xs → (cs : List TClass) → u.types classes earlier path xs ≡ Judged.Typed cs → Classes cs
+  typed_types n [] all cs is = subst Classes (typed_is _ _ is) (record { typed = tt; named = tt; keywords = tt; taken = refl })
+  typed_types n (x ∷ []) all cs is =
+      let first = bind_typed (u.top classes earlier path x) (λ class. Judged.Typed (class ∷ [])) cs is in
+      subst Classes (typed_is _ _ first.2) (typed_top n x all.0 first.0 first.1)
+  typed_types n (x ∷ y ∷ xs) all cs is =
+      let first = bind_typed (u.top classes earlier path x) (λ class. Judged.Open (member_at y)) cs is in absurd (cc (first.2))
 
 -- ---- packages
 
@@ -409,16 +508,22 @@ typed_package (Some x) names is =
 
 -- ---- units
 
-pub record FileGood (file : JFile) : Type 0 where
-  pub typed : IsTypedFile file
-  pub named : JNamed file
-  pub keywords : HasNoKeyword (to.file_of file)
+pub record FileGood (unit : TUnit) : Type 0 where
+  pub typed : IsTypedFile unit
+  pub named : JNamed unit
+  pub keywords : HasNoKeyword (to.file_of unit)
+  pub taken : m.is_taken_unit unit ≡ true
 
-file_good : (names : List (List ℕ)) (o : Option u.Placed) → Parts names → Classes (class_in o) → FileGood (u.file_of names o).file
-file_good names None parts class = record { typed = class.typed; named = record { parts = parts.identify; class = class.named }; keywords = (parts.keywords, class.keywords) }
-file_good names (Some c) parts class = record { typed = class.typed; named = record { parts = parts.identify; class = class.named }; keywords = (parts.keywords, class.keywords) }
+file_good : (path : List ℕ) (names : List (List ℕ)) (cs : List TClass) → Parts names → Classes cs → FileGood (u.unit_of path names cs)
+unfolding m.is_taken_unit
+file_good path names cs parts class = record {
+  typed = class.typed;
+  named = record { parts = parts.identify; class = class.named };
+  keywords = (parts.keywords, class.keywords);
+  taken = class.taken;
+}
 
-not_before : (at : Position) (j : Judged TypedFile) (f : TypedFile) → u.before at j ≡ Judged.Typed f → ⊥
+not_before : (at : Position) (j : Judged TUnit) (f : TUnit) → u.before at j ≡ Judged.Typed f → ⊥
 not_before at (Judged.Typed x) f is = cc is
 not_before at (Judged.Open other) f is = by_test (nat_lt at.offset other.offset) is
   where
@@ -426,64 +531,59 @@ not_before at (Judged.Open other) f is = by_test (nat_lt at.offset other.offset)
     by_test true e = cc e
     by_test false e = cc e
 
-no_comment : (xs : List Comment) (j : Judged TypedFile) (f : TypedFile) → u.commented xs j ≡ Judged.Typed f → j ≡ Judged.Typed f
+no_comment : (xs : List Comment) (j : Judged TUnit) (f : TUnit) → u.commented xs j ≡ Judged.Typed f → j ≡ Judged.Typed f
 no_comment [] j f is = is
 no_comment (x ∷ xs) j f is = absurd (not_before x.position j f is)
 
-pub taken : (classes earlier : List (List ℕ)) (x : JUnit) (f : TypedFile) (text : Tokens) → u.unit classes earlier x ≡ Judged.Typed f → UnitSpells x text → FileGood f.file
+pub taken : (classes earlier : List (List ℕ)) (x : JUnit) (f : TUnit) (text : Tokens) → u.unit classes earlier x ≡ Judged.Typed f → UnitSpells x text → FileGood f
 unfolding u.unit
 taken classes earlier x f text is spells =
     let declared = no_comment x.comments (u.declared classes earlier x) f is in
-    let first = bind_typed (u.package_of x.package) (λ parts. u.imports_of x.imports >>= λ none. u.types classes earlier x.path x.types >>= λ class. Judged.Typed (u.file_of parts class)) f declared in
-    let second = bind_typed (u.imports_of x.imports) (λ none. u.types classes earlier x.path x.types >>= λ class. Judged.Typed (u.file_of first.0 class)) f first.2 in
-    let third = bind_typed (u.types classes earlier x.path x.types) (λ class. Judged.Typed (u.file_of first.0 class)) f second.2 in
-    subst (λ (f : TypedFile). FileGood f.file) (typed_is _ _ third.2)
-    (file_good first.0 third.0 (typed_package x.package first.0 first.1) (typed_types classes earlier x.path (length text) x.types spells.stands third.0 third.1))
+    let first = bind_typed (u.package_of x.package) (λ parts. u.imports_of x.imports >>= λ none. u.types classes earlier x.path x.types >>= λ found. Judged.Typed (u.unit_of x.path parts found)) f declared in
+    let second = bind_typed (u.imports_of x.imports) (λ none. u.types classes earlier x.path x.types >>= λ found. Judged.Typed (u.unit_of x.path first.0 found)) f first.2 in
+    let third = bind_typed (u.types classes earlier x.path x.types) (λ found. Judged.Typed (u.unit_of x.path first.0 found)) f second.2 in
+    subst (λ (f : TUnit). FileGood f) (typed_is _ _ third.2)
+    (file_good x.path first.0 third.0 (typed_package x.package first.0 first.1) (typed_types classes earlier x.path (length text) x.types spells.stands third.0 third.1))
 
 -- ---- the name of a class
 
 -- the name that a class, where there is one, may have
-abbrev MayBeNamed : List (List ℕ) → List ℕ → Option JClass → Type 0
+abbrev MayBeNamed : List (List ℕ) → List ℕ → Option MainClass → Type 0
 MayBeNamed earlier path None = Unit {0}
 MayBeNamed earlier path (Some class) = u.may_name earlier path class.name ≡ true
 
 module _ (classes earlier : List (List ℕ)) (path : List ℕ) where
-  may_named : (name : List ℕ) (at : Position) (xs : List JMember) (c : u.Placed) → u.named classes earlier path name at xs ≡ Judged.Typed c → u.may_name earlier path c.0.name ≡ true
-  may_named name at xs c is =
-      let parts = if_typed (u.may_name earlier path name) (u.class_of classes name at xs) at c is in
-      let first = bind_typed (u.members classes xs) (λ main. Judged.Typed (record { name = name; main = main }, at)) c parts.1 in
-      subst (λ (c : u.Placed). u.may_name earlier path c.0.name ≡ true) (typed_is _ _ first.2) parts.0
+  may_named : (place : Position) (name : List ℕ) (at : Position) (xs : List JMember) (c : TClass) → u.named classes earlier path place name at xs ≡ Judged.Typed c → u.may_name earlier path c.name ≡ true
+  may_named place name at xs c is =
+      let parts = if_typed (u.may_name earlier path name) (u.class_of classes place name at xs) at c is in
+      let first = bind_typed (u.members classes xs) (λ methods. Judged.Typed (u.class_with place name at methods)) c parts.1 in
+      subst (λ (c : TClass). u.may_name earlier path c.name ≡ true) (typed_is _ _ first.2) parts.0
 
-  may_headed : (at : Position) (o : Option u.Named) (xs : List JMember) (c : u.Placed) → u.headed classes earlier path at o xs ≡ Judged.Typed c → u.may_name earlier path c.0.name ≡ true
+  may_headed : (at : Position) (o : Option u.Named) (xs : List JMember) (c : TClass) → u.headed classes earlier path at o xs ≡ Judged.Typed c → u.may_name earlier path c.name ≡ true
   may_headed at None xs c is = absurd (cc is)
-  may_headed at (Some x) xs c is = may_named x.0 x.1 xs c is
+  may_headed at (Some x) xs c is = may_named at x.0 x.1 xs c is
 
-  may_top_form : (at : Position) (x : JMember-F JBody JMember JStatement JCase JCaseGroup JCatch) (c : u.Placed) → u.top_of classes earlier path at x ≡ Judged.Typed c → u.may_name earlier path c.0.name ≡ true
+  may_top_form : (at : Position) (x : JMember-F JBody JMember JStatement JCase JCaseGroup JCatch) (c : TClass) → u.top_of classes earlier path at x ≡ Judged.Typed c → u.may_name earlier path c.name ≡ true
   may_top_form at (JMember-F.Type h left constants bodies xs right) c is = may_headed at (u.class_named h) xs c is
   may_top_form at (JMember-F.Declared h bodies end) c is = absurd (cc is)
   may_top_form at (JMember-F.Bodied h left xs right) c is = absurd (cc is)
 
-  may_top : (x : JMember) (c : u.Placed) → u.top classes earlier path x ≡ Judged.Typed c → u.may_name earlier path c.0.name ≡ true
+  may_top : (x : JMember) (c : TClass) → u.top classes earlier path x ≡ Judged.Typed c → u.may_name earlier path c.name ≡ true
   unfolding u.top
   may_top x c is = may_top_form (member_at x) (out-JMember x) c is
 
-  may_types : (xs : List JMember) (o : Option u.Placed) → u.types classes earlier path xs ≡ Judged.Typed o → MayBeNamed earlier path (class_in o)
-  may_types [] o is = subst (λ (o : Option u.Placed). MayBeNamed earlier path (class_in o)) (typed_is _ _ is) tt
-  may_types (x ∷ []) o is =
-      let first = bind_typed (u.top classes earlier path x) (λ class. Judged.Typed (Some class)) o is in
-      subst (λ (o : Option u.Placed). MayBeNamed earlier path (class_in o)) (typed_is _ _ first.2) (may_top x first.0 first.1)
-  may_types (x ∷ y ∷ xs) o is = let first = bind_typed (u.top classes earlier path x) (λ class. Judged.Open (member_at y)) o is in absurd (cc (first.2))
+  may_types : (xs : List JMember) (cs : List TClass) → u.types classes earlier path xs ≡ Judged.Typed cs → MayBeNamed earlier path (m.class_among cs)
+  may_types [] cs is = subst (λ (cs : List TClass). MayBeNamed earlier path (m.class_among cs)) (typed_is _ _ is) tt
+  may_types (x ∷ []) cs is =
+      let first = bind_typed (u.top classes earlier path x) (λ class. Judged.Typed (class ∷ [])) cs is in
+      subst (λ (cs : List TClass). MayBeNamed earlier path (m.class_among cs)) (typed_is _ _ first.2) (may_top x first.0 first.1)
+  may_types (x ∷ y ∷ xs) cs is = let first = bind_typed (u.top classes earlier path x) (λ class. Judged.Open (member_at y)) cs is in absurd (cc (first.2))
 
-file_named : (earlier : List (List ℕ)) (path : List ℕ) (names : List (List ℕ)) (o : Option u.Placed) → MayBeNamed earlier path (class_in o) → MayBeNamed earlier path (u.file_of names o).file.class
-file_named earlier path names None may = may
-file_named earlier path names (Some c) may = may
-
-pub may_be_named : (classes earlier : List (List ℕ)) (x : JUnit) (f : TypedFile) (class : JClass) → u.unit classes earlier x ≡ Judged.Typed f → f.file.class ≡ Some class → u.may_name earlier x.path class.name ≡ true
+pub may_be_named : (classes earlier : List (List ℕ)) (x : JUnit) (f : TUnit) (class : MainClass) → u.unit classes earlier x ≡ Judged.Typed f → m.class_in f ≡ Some class → u.may_name earlier x.path class.name ≡ true
 unfolding u.unit
 may_be_named classes earlier x f class is there =
     let declared = no_comment x.comments (u.declared classes earlier x) f is in
-    let first = bind_typed (u.package_of x.package) (λ parts. u.imports_of x.imports >>= λ none. u.types classes earlier x.path x.types >>= λ class. Judged.Typed (u.file_of parts class)) f declared in
-    let second = bind_typed (u.imports_of x.imports) (λ none. u.types classes earlier x.path x.types >>= λ class. Judged.Typed (u.file_of first.0 class)) f first.2 in
-    let third = bind_typed (u.types classes earlier x.path x.types) (λ class. Judged.Typed (u.file_of first.0 class)) f second.2 in
-    let may = file_named earlier x.path first.0 third.0 (may_types classes earlier x.path x.types third.0 third.1) in
-    subst (MayBeNamed earlier x.path) there (subst (λ (f : TypedFile). MayBeNamed earlier x.path f.file.class) (typed_is _ _ third.2) may)
+    let first = bind_typed (u.package_of x.package) (λ parts. u.imports_of x.imports >>= λ none. u.types classes earlier x.path x.types >>= λ found. Judged.Typed (u.unit_of x.path parts found)) f declared in
+    let second = bind_typed (u.imports_of x.imports) (λ none. u.types classes earlier x.path x.types >>= λ found. Judged.Typed (u.unit_of x.path first.0 found)) f first.2 in
+    let third = bind_typed (u.types classes earlier x.path x.types) (λ found. Judged.Typed (u.unit_of x.path first.0 found)) f second.2 in
+    subst (MayBeNamed earlier x.path) there (subst (λ (f : TUnit). MayBeNamed earlier x.path (m.class_in f)) (typed_is _ _ third.2) (may_types classes earlier x.path x.types third.0 third.1))

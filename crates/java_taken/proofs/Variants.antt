@@ -161,7 +161,7 @@ module _ (names : List (List ℕ)) where
   pub form_Cast : (lp : Position) (to : JType) (rp : Position) (x : JExpr) → expression names (e.Cast lp to rp x) ≡ Judged.Open (first_at (e.Cast lp to rp x))
   form_Cast lp to rp x = form (JExpr-F.Cast lp to rp x) _ (e.rolls-Cast lp to rp x)
 
-  pub form_Binary : (x : JExpr) (op : BinaryOp) (at : Position) (y : JExpr) → expression names (e.Binary x op at y) ≡ operands (first_at (e.Binary x op at y)) (expression names x) (operator_of op) (expression names y)
+  pub form_Binary : (x : JExpr) (op : BinaryOp) (at : Position) (y : JExpr) → expression names (e.Binary x op at y) ≡ operands (first_at (e.Binary x op at y)) (expression names x) (operator_of op) at (expression names y)
   form_Binary x op at y = form (JExpr-F.Binary x op at y) _ (e.rolls-Binary x op at y)
 
   pub form_Conditional : (x : JExpr) (q : Position) (y : JExpr) (c : Position) (z : JExpr) → expression names (e.Conditional x q y c z) ≡ Judged.Open (first_at (e.Conditional x q y c z))

@@ -28,14 +28,27 @@ use Rattle.java_unit_grammar.specs.declared.statements.JMember.{JMember, out-JMe
 use Rattle.java_unit_grammar.specs.declared.statements.JStatement.{JStatement}
 use Rattle.java_unit_grammar.specs.declared.statements.JBody.TheOpen.{JMember-F}
 use Rattle.java_unit_grammar.specs.declared.units.JUnit.{JUnit}
-use Rattle.meanings.specs.declared.java.JMain.{JMain}
-use Rattle.meanings.specs.declared.java.JClass.{JClass}
+use Rattle.java_typed.specs.declared.types.ClassRef.TheVariants as class
+use Rattle.java_typed.specs.declared.types.TType.{TType}
+use Rattle.java_typed.specs.declared.types.TType.TheVariants as ty
+use Rattle.java_typed.specs.declared.types.TWritten.{TWritten}
+use Rattle.java_typed.specs.declared.members.Access.TheVariants.{Public}
+use Rattle.java_typed.specs.declared.members.TModifiers.{TModifiers}
+use Rattle.java_typed.specs.declared.statements.TStatement.{TStatement}
+use Rattle.java_typed.specs.declared.units.ClassSort.TheVariants as sort
+use Rattle.java_typed.specs.declared.units.TFirstCall.TheVariants as call
+use Rattle.java_typed.specs.declared.units.TConstructor.{TConstructor}
+use Rattle.java_typed.specs.declared.units.TMethod.{TMethod}
+use Rattle.java_typed.specs.declared.units.TParam.{TParam}
+use Rattle.java_typed.specs.declared.units.TMember.{TMember}
+use Rattle.java_typed.specs.declared.units.TMember.TheVariants as order
+use Rattle.java_typed.specs.declared.units.TClass.{TClass}
+use Rattle.java_typed.specs.declared.units.TUnit.{TUnit}
 use Rattle.java_taken.specs.declared.judged.Judged.{Judged as Answer}
 use Rattle.java_taken.specs.declared.judged.Judged.TheVariants as answer
-use Rattle.java_taken.specs.declared.judged.TypedFile.{TypedFile}
 use Rattle.java_taken.specs.Judged.{Judged, ◌>>=◌}
 use Rattle.java_taken.specs.Names.{is_free, contains_name}
-use Rattle.java_taken.specs.Places.{member_at}
+use Rattle.java_taken.specs.Places.{nowhere, type_at, member_at}
 use Rattle.java_taken.specs.Statements.{statements}
 
 -- ---- `public static void main(String[] p)` (JLS 12.1.4)
@@ -84,29 +97,109 @@ abbrev pub main_parameter : JMemberHead → Option JTypedParam
 main_parameter (head.Method mods None (result.Void void_at) name at formals None) = if are_main (kinds mods) && bytes_eq name (codes "main") then only formals.items else None
 main_parameter _ = None
 
+-- where the name of a method stands
+abbrev pub name_place : JMemberHead → Position
+name_place (head.Method mods params answer name at formals throws) = at
+name_place _ = nowhere
+
+-- ---- the trees
+
+abbrev pub modifiers : Bool → TModifiers
+modifiers is_static = record { access = Public; is_static = is_static; is_final = false; is_abstract = false; is_synchronized = false; is_volatile = false }
+
+abbrev pub strings_type : TType
+strings_type = ty.Array (ty.Class (class.Library 1) [])
+
+-- where `String[]` names its types: the array at its bracket
+abbrev pub places_by : JType-F JType → List Position
+places_by (JType-F.Array element (brackets ∷ [])) = brackets.opens ∷ type_at element ∷ []
+places_by _ = []
+
+unfoldable pub places_of : JType → List Position
+places_of x = places_by (out-JType x)
+
+abbrev pub strings_written : JType → TWritten
+strings_written x = record { kind = strings_type; places = places_of x }
+
+-- the parameter of `main`
+abbrev pub params_of : JTypedParam → List TParam
+params_of x = record { name = x.name; at = x.at; kind = strings_written x.kind; is_final = false } ∷ []
+
+-- `public static void main(String[] p)`, from its first token; where its name stands, its parameter, its statements and the `}`
+abbrev pub main_method : Position → Position → JTypedParam → List TStatement → Position → TMethod
+main_method first at x body closes = record {
+  first = first;
+  name = codes "main";
+  at = at;
+  modifiers = modifiers true;
+  type_params = [];
+  params = params_of x;
+  result = None;
+  throws = [];
+  block = Some (record { statements = body; closes = closes });
+}
+
+-- the constructor that isn't written stands at the name of the class (JLS 8.8.9)
+abbrev pub default_constructor : Position → TConstructor
+default_constructor at = record {
+  first = at;
+  at = at;
+  is_written = false;
+  modifiers = modifiers false;
+  params = [];
+  throws = [];
+  call = call.Nothing;
+  block = record { statements = []; closes = at };
+}
+
+-- the first of the methods
+abbrev pub order_of : List TMethod → List TMember
+order_of [] = []
+order_of (m ∷ ms) = order.Method 0 ∷ []
+
+-- a public class directly below Object, from its first token; its name, where that stands, its methods
+abbrev pub class_with : Position → List ℕ → Position → List TMethod → TClass
+class_with first name at methods = record {
+  around = None;
+  first = first;
+  name = name;
+  at = at;
+  sort = sort.Class;
+  modifiers = modifiers false;
+  type_params = [];
+  above = None;
+  faces = [];
+  fields = [];
+  methods = methods;
+  constructors = default_constructor at ∷ [];
+  initializers = [];
+  order = order_of methods;
+  captured = [];
+}
+
 module _ (classes : List (List ℕ)) where
   -- the name of a parameter comes before the statements
-  abbrev pub main_of : JTypedParam → List JStatement → Judged JMain
-  main_of x xs =
+  abbrev pub main_of : Position → Position → JTypedParam → List JStatement → Position → Judged TMethod
+  main_of first at x xs closes =
       if is_free x.name && not (contains_name classes x.name)
-      then (statements classes x.name [] xs >>= λ body. Judged.Typed (record { parameter = x.name; body = body }))
+      then (statements classes x.name [] xs >>= λ body. Judged.Typed (main_method first at x body closes))
       else Judged.Open x.at
 
-  abbrev pub bodied : Position → Option JTypedParam → List JStatement → Judged JMain
-  bodied at None xs = Judged.Open at
-  bodied at (Some x) xs = main_of x xs
+  abbrev pub bodied : Position → Position → Option JTypedParam → List JStatement → Position → Judged TMethod
+  bodied first at None xs closes = Judged.Open first
+  bodied first at (Some x) xs closes = main_of first at x xs closes
 
-  abbrev pub member_of : Position → JMember-F JBody JMember JStatement JCase JCaseGroup JCatch → Judged JMain
-  member_of at (JMember-F.Bodied head left xs right) = bodied at (main_parameter head) xs
+  abbrev pub member_of : Position → JMember-F JBody JMember JStatement JCase JCaseGroup JCatch → Judged TMethod
+  member_of at (JMember-F.Bodied head left xs right) = bodied at (name_place head) (main_parameter head) xs right
   member_of at _ = Judged.Open at
 
-  unfoldable pub member : JMember → Judged JMain
+  unfoldable pub member : JMember → Judged TMethod
   member x = member_of (member_at x) (out-JMember x)
 
   -- at most one
-  abbrev pub members : List JMember → Judged (Option JMain)
-  members [] = Judged.Typed None
-  members (x ∷ []) = member x >>= λ main. Judged.Typed (Some main)
+  abbrev pub members : List JMember → Judged (List TMethod)
+  members [] = Judged.Typed []
+  members (x ∷ []) = member x >>= λ main. Judged.Typed (main ∷ [])
   members (x ∷ y ∷ more) = member x >>= λ main. Judged.Open (member_at y)
 
 -- ---- a class (JLS 8.1) with the one modifier `public`
@@ -123,10 +216,6 @@ abbrev pub class_named : JTypeHead → Option Named
 class_named (kind.Class mods at name name_at None None None) = if are_public (kinds mods) then Some (name, name_at) else None
 class_named _ = None
 
--- A class, and where its name stands.
-abbrev pub Placed : Type 0
-Placed = JClass × Position
-
 -- The file is named as the class, which has no `/` (own rule where JLS 7.6 leaves it open).
 abbrev pub is_file_of : List ℕ → List ℕ → Bool
 is_file_of path name = bytes_eq path (name ++ codes ".java") || ends_with nat_eq path (codes "/" ++ (name ++ codes ".java"))
@@ -135,31 +224,31 @@ is_file_of path name = bytes_eq path (name ++ codes ".java") || ends_with nat_eq
 abbrev pub may_name : List (List ℕ) → List ℕ → List ℕ → Bool
 may_name earlier path name = is_free name && not (contains_name earlier name) && is_file_of path name
 
-abbrev pub class_of : List (List ℕ) → List ℕ → Position → List JMember → Judged Placed
-class_of classes name at xs = members classes xs >>= λ main. Judged.Typed (record { name = name; main = main }, at)
+abbrev pub class_of : List (List ℕ) → Position → List ℕ → Position → List JMember → Judged TClass
+class_of classes first name at xs = members classes xs >>= λ methods. Judged.Typed (class_with first name at methods)
 
 -- The names of the project's classes, those of the classes of earlier files, and the path of the file.
 module _ (classes earlier : List (List ℕ)) (path : List ℕ) where
   -- a class's name comes before its members
-  abbrev pub named : List ℕ → Position → List JMember → Judged Placed
-  named name at xs = if may_name earlier path name then class_of classes name at xs else Judged.Open at
+  abbrev pub named : Position → List ℕ → Position → List JMember → Judged TClass
+  named first name at xs = if may_name earlier path name then class_of classes first name at xs else Judged.Open at
 
-  abbrev pub headed : Position → Option Named → List JMember → Judged Placed
+  abbrev pub headed : Position → Option Named → List JMember → Judged TClass
   headed first None xs = Judged.Open first
-  headed first (Some x) xs = named x.0 x.1 xs
+  headed first (Some x) xs = named first x.0 x.1 xs
 
-  abbrev pub top_of : Position → JMember-F JBody JMember JStatement JCase JCaseGroup JCatch → Judged Placed
+  abbrev pub top_of : Position → JMember-F JBody JMember JStatement JCase JCaseGroup JCatch → Judged TClass
   top_of at (JMember-F.Type head left constants bodies xs right) = headed at (class_named head) xs
   top_of at _ = Judged.Open at
 
   -- a type, or a `;`
-  unfoldable pub top : JMember → Judged Placed
+  unfoldable pub top : JMember → Judged TClass
   top x = top_of (member_at x) (out-JMember x)
 
   -- at most one in a file
-  abbrev pub types : List JMember → Judged (Option Placed)
-  types [] = Judged.Typed None
-  types (x ∷ []) = top x >>= λ class. Judged.Typed (Some class)
+  abbrev pub types : List JMember → Judged (List TClass)
+  types [] = Judged.Typed []
+  types (x ∷ []) = top x >>= λ class. Judged.Typed (class ∷ [])
   types (x ∷ y ∷ more) = top x >>= λ class. Judged.Open (member_at y)
 
 -- ---- a package line (JLS 7.4.1), whose names come first
@@ -185,29 +274,29 @@ abbrev pub imports_of : List JImport → Judged (Unit {0})
 imports_of [] = Judged.Typed tt
 imports_of (x ∷ xs) = Judged.Open x.at
 
-abbrev pub file_of : List (List ℕ) → Option Placed → TypedFile
-file_of parts None = record { file = record { «package» = parts; class = None }; at = None }
-file_of parts (Some class) = record { file = record { «package» = parts; class = Some class.0 }; at = Some class.1 }
+-- without comments
+abbrev pub unit_of : List ℕ → List (List ℕ) → List TClass → TUnit
+unit_of path parts classes = record { path = path; «package» = parts; classes = classes; comments = [] }
 
 -- without its comments
-abbrev pub declared : List (List ℕ) → List (List ℕ) → JUnit → Judged TypedFile
+abbrev pub declared : List (List ℕ) → List (List ℕ) → JUnit → Judged TUnit
 declared classes earlier x =
-    package_of x.package >>= λ parts. imports_of x.imports >>= λ none. types classes earlier x.path x.types >>= λ class. Judged.Typed (file_of parts class)
+    package_of x.package >>= λ parts. imports_of x.imports >>= λ none. types classes earlier x.path x.types >>= λ found. Judged.Typed (unit_of x.path parts found)
 
-abbrev pub before : Position → Judged TypedFile → Judged TypedFile
+abbrev pub before : Position → Judged TUnit → Judged TUnit
 before at (Judged.Typed x) = Judged.Open at
 before at (Judged.Open other) = if nat_lt at.offset other.offset then Judged.Open at else Judged.Open other
 
 -- each comment is open
-abbrev pub commented : List Comment → Judged TypedFile → Judged TypedFile
+abbrev pub commented : List Comment → Judged TUnit → Judged TUnit
 commented [] judged = judged
 commented (x ∷ xs) judged = before x.position judged
 
 -- of the project's classes these are the names, and of those in earlier files
-unfoldable pub unit : List (List ℕ) → List (List ℕ) → JUnit → Judged TypedFile
+unfoldable pub unit : List (List ℕ) → List (List ℕ) → JUnit → Judged TUnit
 unit classes earlier x = commented x.comments (declared classes earlier x)
 
 -- what the code answers
-abbrev pub seen : Answer → Judged TypedFile
+abbrev pub seen : Answer → Judged TUnit
 seen (answer.Open at) = Judged.Open at
 seen (answer.Typed x) = Judged.Typed x

@@ -3,27 +3,27 @@
 ghost use Rattle.std.specs.Prelude.{◌≡◌};
 ghost use Rattle.java_taken.specs.Expressions as s;
 ghost use Rattle.java_taken.specs.Judged.{Judges};
+ghost use Rattle.java_taken.specs.Places as p;
 
 use crate::judged::Refusal;
 use crate::names::Names;
 use crate::places::first_at;
-use j2k_base::Name;
+use j2k_base::{Const, Kind, Name, Op2, Value};
 use java_tree::{BinaryOp, JExpr, JLiteral, Position};
-use meanings::java::JExpr as TExpr;
-use meanings::operators::Operator;
+use java_typed::{TExpr, TType};
 use sqlite_items::Boxed;
 use std::alloc::Global;
 
 /// The largest `int`.
 pub(crate) const MAX_NUMBER: u32 = 2_147_483_647;
 
-fn operator_of(op: BinaryOp) -> Option<Operator>
+fn operator_of(op: BinaryOp) -> Option<Op2>
     ensures { result ≡ s.operator_of op }
 {
     match op {
-        BinaryOp::Add => Some(Operator::Plus),
-        BinaryOp::Subtract => Some(Operator::Minus),
-        BinaryOp::Multiply => Some(Operator::Times),
+        BinaryOp::Add => Some(Op2::Add),
+        BinaryOp::Subtract => Some(Op2::Sub),
+        BinaryOp::Multiply => Some(Op2::Mul),
         _ => None,
     }
 }
@@ -32,7 +32,7 @@ fn operator_of(op: BinaryOp) -> Option<Operator>
 fn is_number(x: &TExpr) -> bool
     ensures { result ≡ s.is_number x.now }
 {
-    matches!(x, TExpr::Number(_))
+    matches!(x, TExpr::Literal(..))
 }
 
 fn local(alloc: Global, names: &Names, name: &Name, at: Position) -> Result<Boxed<TExpr>, Refusal>
@@ -42,14 +42,18 @@ fn local(alloc: Global, names: &Names, name: &Name, at: Position) -> Result<Boxe
         return Err(Refusal::Open(at));
     }
     let name = Name::from_str(alloc, name.as_str())?;
-    Ok(Boxed::new(alloc, TExpr::Local(name))?)
+    let kind = TType::Number(Kind::Int);
+    Ok(Boxed::new(alloc, TExpr::Local(name, at, kind))?)
 }
 
 fn number(alloc: Global, literal: &JLiteral, at: Position) -> Result<Boxed<TExpr>, Refusal>
     ensures { Judges (s.number_of literal.now at) result }
 {
     match literal {
-        JLiteral::Integer(n) if *n <= MAX_NUMBER => Ok(Boxed::new(alloc, TExpr::Number(*n))?),
+        JLiteral::Integer(n) if *n <= MAX_NUMBER => {
+            let value = Value::Number(Const::Int(*n as i32));
+            Ok(Boxed::new(alloc, TExpr::Literal(value, at))?)
+        }
         _ => Err(Refusal::Open(at)),
     }
 }
@@ -60,22 +64,30 @@ fn paren(alloc: Global, at: Position, inner: Boxed<TExpr>) -> Result<Boxed<TExpr
     if is_number(inner.get()) {
         return Err(Refusal::Open(at));
     }
-    Ok(Boxed::new(alloc, TExpr::Paren(inner))?)
+    Ok(Boxed::new(alloc, TExpr::Paren(at, inner))?)
 }
 
+/// The operator of the whole expression between its operands.
 fn binary(
     alloc: Global,
-    at: Position,
+    whole: &JExpr,
     left: Boxed<TExpr>,
-    operator: Operator,
+    op: Op2,
+    at: Position,
     right: Boxed<TExpr>,
 ) -> Result<Boxed<TExpr>, Refusal>
-    ensures { Judges (s.binary_of at left operator right) result }
+    ensures { Judges (s.binary_of (p.first_at whole.now) left op at right) result }
 {
     if is_number(left.get()) && is_number(right.get()) {
-        return Err(Refusal::Open(at));
+        return Err(Refusal::Open(first_at(whole)));
     }
-    Ok(Boxed::new(alloc, TExpr::Binary(left, operator, right))?)
+    let tree = TExpr::Binary {
+        left,
+        op,
+        at,
+        right,
+    };
+    Ok(Boxed::new(alloc, tree)?)
 }
 
 /// The typed tree of an expression after the declarations of the names (JLS 15).
@@ -90,11 +102,11 @@ pub(crate) fn expression(alloc: Global, names: &Names, x: &JExpr) -> Result<Boxe
             let inner = expression(alloc, names, inner.get())?;
             paren(alloc, *at, inner)
         }
-        JExpr::Binary(left, op, _, right) => match operator_of(*op) {
+        JExpr::Binary(left, op, at, right) => match operator_of(*op) {
             Some(operator) => {
                 let first = expression(alloc, names, left.get())?;
                 let second = expression(alloc, names, right.get())?;
-                binary(alloc, first_at(x), first, operator, second)
+                binary(alloc, x, first, operator, *at, second)
             }
             None => Err(Refusal::Open(first_at(x))),
         },

@@ -5,21 +5,15 @@ ghost use Rattle.java_taken.specs.declared.judged.Refusal.TheVariants.{Memory};
 
 use j2k_base::NoMemory;
 use java_tree::Position;
-use meanings::java::JFile;
+use java_typed::TUnit;
+use sqlite_items::Boxed;
 use std::alloc::{AllocError, AllocFailed};
 
-/// The typed tree of a unit, and where the name of its class stands.
-#[derive(Debug, Drop)]
-pub struct TypedFile {
-    pub file: JFile,
-    pub at: Option<Position>,
-}
-
 /// What a unit is judged to be: its first open form stands at the position, or it is taken.
-#[derive(Debug, Drop)]
+#[derive(Drop)]
 pub enum Judged {
     Open(Position),
-    Typed(TypedFile),
+    Typed(Boxed<TUnit>),
 }
 
 /// Why a part has no typed tree: memory runs out, or its first open form stands at the position.

@@ -1,4 +1,4 @@
-//! Which units are taken: the typed file of one that is, or the position of its first open form.
+//! Which units are taken: the typed tree of one that is, or the position of its first open form.
 #![tactic(auto)]
 
 mod expressions;
@@ -10,7 +10,7 @@ mod statements;
 mod units;
 mod words;
 
-pub use judged::{Judged, TypedFile};
-pub use laws::{has_no_keyword, is_named, is_typed, may_be_named};
+pub use judged::Judged;
+pub use laws::{has_no_keyword, is_named, is_taken, is_typed, may_be_named};
 pub use names::Names;
 pub use units::judge;

@@ -3,6 +3,7 @@
 ghost use Rattle.std.specs.Prelude.{◌≡◌, [], IfOk};
 ghost use Rattle.java_taken.specs.Statements as s;
 ghost use Rattle.java_taken.specs.Judged.{Judges};
+ghost use Rattle.java_taken.specs.Judged as j;
 ghost use Rattle.java_tree.specs.declared.exprs.JExpr.{out-JExpr};
 
 use crate::expressions::expression;
@@ -10,11 +11,15 @@ use crate::judged::Refusal;
 use crate::names::Names;
 use crate::places::statement_at;
 use crate::words::{OUT, PRINTLN, SYSTEM, is_free};
-use j2k_base::{Name, NoMemory};
+use j2k_base::{Kind, Name, NoMemory};
 use java_statement_grammar::{JDeclaration, JDeclarator, JSimple};
 use java_tree::{JExpr, JType, Position, Primitive};
+use java_typed::{
+    ClassRef, MemberRef, TDeclarator, TExpr, TResult, TSimple, TStatement, TStatements, TType,
+    TWritten,
+};
 use java_unit_grammar::JStatement;
-use meanings::java::{JStmt, JStmts};
+use sqlite_items::{Boxed, Items};
 use std::alloc::Global;
 
 /// Whether a local may have the name, beside the project's classes, the parameter and the locals before it.
@@ -49,6 +54,59 @@ fn is_out(x: &JExpr) -> bool
     }
 }
 
+/// `int x = e;`
+fn declares(
+    alloc: Global,
+    at: Position,
+    name: Name,
+    name_at: Position,
+    value: Boxed<TExpr>,
+) -> Result<Boxed<TStatement>, Refusal>
+    ensures { Judges (j.Judged.Typed (s.declares at name name_at value)) result }
+{
+    let mut names = Items::new(alloc);
+    names.push(TDeclarator {
+        name,
+        at: name_at,
+        kind: TWritten {
+            kind: TType::Number(Kind::Int),
+            places: Items::new(alloc),
+        },
+        is_final: false,
+        value: Some(value.into_inner()),
+    })?;
+    let made = TStatement::Simple(at, TSimple::Locals(names), Items::new(alloc));
+    Ok(Boxed::new(alloc, made)?)
+}
+
+/// The row of `println` of an int among the members of System in the library.
+const PRINTLN_INT: MemberRef = MemberRef {
+    class: ClassRef::Library(16),
+    place: 8,
+};
+
+/// `System.out.println(e);`
+fn prints(
+    alloc: Global,
+    at: Position,
+    name_at: Position,
+    value: Boxed<TExpr>,
+) -> Result<Boxed<TStatement>, Refusal>
+    ensures { Judges (j.Judged.Typed (s.prints at name_at value)) result }
+{
+    let mut arguments = Items::new(alloc);
+    arguments.push(value.into_inner())?;
+    let call = TExpr::StaticCall {
+        first: at,
+        member: PRINTLN_INT,
+        at: name_at,
+        arguments,
+        result: TResult::Void,
+    };
+    let made = TStatement::Simple(at, TSimple::Value(call), Items::new(alloc));
+    Ok(Boxed::new(alloc, made)?)
+}
+
 /// A name that is declared with its value.
 fn valued(
     alloc: Global,
@@ -57,7 +115,7 @@ fn valued(
     names: &Names,
     at: Position,
     x: &JDeclarator,
-) -> Result<JStmt, Refusal>
+) -> Result<Boxed<TStatement>, Refusal>
     ensures { Judges (s.valued classes.now parameter.now names.now at x.now x.now.value) result }
 {
     let Some(value) = &x.value else {
@@ -68,7 +126,7 @@ fn valued(
     }
     let value = expression(alloc, names, &value.tree)?;
     let name = Name::from_str(alloc, x.name.as_str())?;
-    Ok(JStmt::Local(name, value.into_inner()))
+    declares(alloc, at, name, x.at, value)
 }
 
 fn is_int(x: &JType) -> bool
@@ -84,7 +142,7 @@ fn declared(
     names: &Names,
     at: Position,
     x: &JDeclaration,
-) -> Result<JStmt, Refusal>
+) -> Result<Boxed<TStatement>, Refusal>
     ensures { Judges (s.declared classes.now parameter.now names.now at x.now.is_final (s.is_int x.now.kind) x.now.names) result }
 {
     if x.is_final.is_some() || !is_int(&x.kind) {
@@ -96,25 +154,36 @@ fn declared(
     }
 }
 
-fn printed(alloc: Global, names: &Names, at: Position, items: &[JExpr]) -> Result<JStmt, Refusal>
-    ensures { Judges (s.printed names.now at items.now) result }
+fn printed(
+    alloc: Global,
+    names: &Names,
+    at: Position,
+    name_at: Position,
+    items: &[JExpr],
+) -> Result<Boxed<TStatement>, Refusal>
+    ensures { Judges (s.printed names.now at name_at items.now) result }
 {
     match items {
         [item] => {
             let value = expression(alloc, names, item)?;
-            Ok(JStmt::Print(value.into_inner()))
+            prints(alloc, at, name_at, value)
         }
         _ => Err(Refusal::Open(at)),
     }
 }
 
-fn called(alloc: Global, names: &Names, at: Position, x: &JExpr) -> Result<JStmt, Refusal>
+fn called(
+    alloc: Global,
+    names: &Names,
+    at: Position,
+    x: &JExpr,
+) -> Result<Boxed<TStatement>, Refusal>
     ensures { Judges (s.called names.now at (out-JExpr x.now)) result }
 {
     match x {
-        JExpr::Method(left, _, name, _, _, items, ..)
+        JExpr::Method(left, _, name, name_at, _, items, ..)
             if is_out(left.get()) && name.as_bytes() == PRINTLN.as_bytes() => {
-            printed(alloc, names, at, items.as_slice())
+            printed(alloc, names, at, *name_at, items.as_slice())
         }
         _ => Err(Refusal::Open(at)),
     }
@@ -127,7 +196,7 @@ fn simple(
     names: &Names,
     at: Position,
     x: &JSimple,
-) -> Result<JStmt, Refusal>
+) -> Result<Boxed<TStatement>, Refusal>
     ensures { Judges (s.simple_of classes.now parameter.now names.now at x.now) result }
 {
     match x {
@@ -145,7 +214,7 @@ fn statement(
     parameter: &Name,
     names: &Names,
     x: &JStatement,
-) -> Result<JStmt, Refusal>
+) -> Result<Boxed<TStatement>, Refusal>
     ensures { Judges (s.statement classes.now parameter.now names.now x.now) result }
 {
     let at = statement_at(x);
@@ -156,16 +225,19 @@ fn statement(
 }
 
 /// Declares the local of a declaration.
-#[tactic(auto, using(crate::proofs::Loops::not_if))]
-fn declare(names: &mut Names, x: &JStmt) -> Result<(), NoMemory>
+#[tactic(auto, using(crate::proofs::Loops::not_if), unfolding(crate::specs::Statements::names_after))]
+fn declare(names: &mut Names, x: &TStatement) -> Result<(), NoMemory>
     ensures { IfOk result (λ u. names.new ≡ s.names_after names.old x.now) }
 {
     match x {
-        JStmt::Local(name, _) => {
-            let _ = names.declare(name.as_str())?;
-            Ok(())
-        }
-        JStmt::Print(_) => Ok(()),
+        TStatement::Simple(_, TSimple::Locals(names_in), _) => match names_in.as_slice() {
+            [declared] => {
+                let _ = names.declare(declared.name.as_str())?;
+                Ok(())
+            }
+            _ => Ok(()),
+        },
+        _ => Ok(()),
     }
 }
 
@@ -175,15 +247,15 @@ pub(crate) fn statements(
     classes: &Names,
     parameter: &Name,
     xs: &[JStatement],
-) -> Result<JStmts, Refusal>
+) -> Result<TStatements, Refusal>
     ensures { Judges (s.statements classes.now parameter.now [] xs.now) result }
 {
     let mut names = Names::new(alloc);
-    let mut found = JStmts::new(alloc);
+    let mut found = TStatements::new(alloc);
     for x in xs {
         let next = statement(alloc, classes, parameter, &names, x)?;
-        declare(&mut names, &next)?;
-        found.push(next)?;
+        declare(&mut names, next.get())?;
+        found.push(next.into_inner())?;
     }
     Ok(found)
 }

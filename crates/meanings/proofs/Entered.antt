@@ -2,16 +2,15 @@
 use Rattle.std.proofs.Common.{◌≡◌, inl, inr, ℕ, suc, ◌+◌, Bool, true, false, ◌&&◌, List, [], ◌∷◌, length, Option, Some, None, if◌then◌else◌, refl, sym, ◌∙◌, ap, subst, arith}
 use Rattle.std.specs.Prelude.{option_map, filter_map, codes}
 use Rattle.std.specs.List.{cons_option}
-use Rattle.meanings.specs.declared.java.JMain.{JMain}
-use Rattle.meanings.specs.declared.java.JClass.{JClass}
-use Rattle.meanings.specs.declared.java.JFile.{JFile}
 use Rattle.meanings.specs.declared.kotlin.KClass.{KClass}
+use Rattle.java_typed.specs.declared.units.TUnit.{TUnit}
+use Rattle.meanings.specs.Taken.{MainMethod, MainClass, classes_in as java_classes_in}
 use Rattle.meanings.specs.Convert.{main_of, classes_of, files_of}
 use Rattle.meanings.specs.Values.{Name, same_name, Site, same_site, Value}
 use Rattle.meanings.specs.Outcome.{Meaning, ◌>>◌, pay, assign_all}
 use Rattle.meanings.specs.Machine.{Bodies, returned}
 use Rattle.meanings.specs.Program.{Program, Body, main_site, main_entry, place, bodies, enter, turn, thread, thread_at, Enters}
-use Rattle.meanings.specs.Java.{java_main, java_method, entry_class, classes_in as java_classes_in, java_program}
+use Rattle.meanings.specs.Java.{java_main, java_method, entry_class, java_program}
 use Rattle.meanings.specs.Kotlin.{kotlin_main, kotlin_method, kotlin_program}
 use Rattle.meanings.specs.Entries.{Strings, Entry, count_of, site_of}
 use Rattle.meanings.specs.SameSteps.{AreMains, AreConfigured, renamed, entered, IsOneOf, IsEntered, EntriesAreEntered}
@@ -23,9 +22,9 @@ abbrev text_in : Program → Bodies → Body → List Value → Meaning (Unit {0
 text_in program b body vs = pay >> (assign_all body.parameters vs >> body.text (place program b body.site.class))
 
 -- the first class of a name that has a `main`
-record Found (classes : List JClass) (name : Name) : Type 0 where
-  class : JClass
-  main : JMain
+record Found (classes : List MainClass) (name : Name) : Type 0 where
+  class : MainClass
+  main : MainMethod
   one : IsOneOf class classes
   named : class.name ≡ name
   its : class.main ≡ Some main
@@ -61,7 +60,7 @@ entry_later : (own : Name) (names : List Name) (name : Name) → same_name name 
 entry_later own names name differs = if_false ((same_name name own && true) && true) (Some (main_site own)) (main_entry names name (codes "main") 1) (and_false (same_name name own && true) true (and_false (same_name name own) true differs))
 
 -- the class itself
-found_here : (class : JClass) (main : JMain) (classes : List JClass) (name : Name) → class.main ≡ Some main → same_name name class.name ≡ true → Found (class ∷ classes) name
+found_here : (class : MainClass) (main : MainMethod) (classes : List MainClass) (name : Name) → class.main ≡ Some main → same_name name class.name ≡ true → Found (class ∷ classes) name
 found_here class main classes name its same =
     let named : class.name ≡ name = sym (same_name_true name class.name same) in
     record {
@@ -70,22 +69,22 @@ found_here class main classes name its same =
       one = inl refl;
       named = named;
       its = its;
-      entry = ap (λ (m : Option JMain). main_entry (cons_option (option_map (λ (m : JMain). class.name) m) (filter_map entry_class classes)) name (codes "main") 1) its ∙ entry_first class.name (filter_map entry_class classes) name same;
-      java = λ program b vs. ap (λ (m : Option JMain). enter program b (cons_option (option_map (java_main class.name) m) (filter_map java_method classes)) (main_site class.name) vs) its ∙ if_true _ _ _ (same_site_self (main_site class.name));
-      kotlin = λ program b vs. ap (λ (m : Option JMain). enter program b (cons_option (option_map (kotlin_main class.name) (option_map main_of m)) (filter_map kotlin_method (classes_of classes))) (main_site class.name) vs) its ∙ if_true _ _ _ (same_site_self (main_site class.name));
+      entry = ap (λ (m : Option MainMethod). main_entry (cons_option (option_map (λ (m : MainMethod). class.name) m) (filter_map entry_class classes)) name (codes "main") 1) its ∙ entry_first class.name (filter_map entry_class classes) name same;
+      java = λ program b vs. ap (λ (m : Option MainMethod). enter program b (cons_option (option_map (java_main class.name) m) (filter_map java_method classes)) (main_site class.name) vs) its ∙ if_true _ _ _ (same_site_self (main_site class.name));
+      kotlin = λ program b vs. ap (λ (m : Option MainMethod). enter program b (cons_option (option_map (kotlin_main class.name) (option_map main_of m)) (filter_map kotlin_method (classes_of classes))) (main_site class.name) vs) its ∙ if_true _ _ _ (same_site_self (main_site class.name));
     }
 
 -- behind a class without a `main`, or of another name
-found_later : (class : JClass) (o : Option JMain) (classes : List JClass) (name : Name) → class.main ≡ o → ((main : JMain) → o ≡ Some main → same_name name class.name ≡ false) → Found classes name → Found (class ∷ classes) name
+found_later : (class : MainClass) (o : Option MainMethod) (classes : List MainClass) (name : Name) → class.main ≡ o → ((main : MainMethod) → o ≡ Some main → same_name name class.name ≡ false) → Found classes name → Found (class ∷ classes) name
 found_later class None classes name its other f = record {
   class = f.class;
   main = f.main;
   one = inr f.one;
   named = f.named;
   its = f.its;
-  entry = ap (λ (m : Option JMain). main_entry (cons_option (option_map (λ (m : JMain). class.name) m) (filter_map entry_class classes)) name (codes "main") 1) its ∙ f.entry;
-  java = λ program b vs. ap (λ (m : Option JMain). enter program b (cons_option (option_map (java_main class.name) m) (filter_map java_method classes)) (main_site f.class.name) vs) its ∙ f.java program b vs;
-  kotlin = λ program b vs. ap (λ (m : Option JMain). enter program b (cons_option (option_map (kotlin_main class.name) (option_map main_of m)) (filter_map kotlin_method (classes_of classes))) (main_site f.class.name) vs) its ∙ f.kotlin program b vs;
+  entry = ap (λ (m : Option MainMethod). main_entry (cons_option (option_map (λ (m : MainMethod). class.name) m) (filter_map entry_class classes)) name (codes "main") 1) its ∙ f.entry;
+  java = λ program b vs. ap (λ (m : Option MainMethod). enter program b (cons_option (option_map (java_main class.name) m) (filter_map java_method classes)) (main_site f.class.name) vs) its ∙ f.java program b vs;
+  kotlin = λ program b vs. ap (λ (m : Option MainMethod). enter program b (cons_option (option_map (kotlin_main class.name) (option_map main_of m)) (filter_map kotlin_method (classes_of classes))) (main_site f.class.name) vs) its ∙ f.kotlin program b vs;
 }
 found_later class (Some main) classes name its other f =
     let differs : same_name name class.name ≡ false = other main refl in
@@ -96,9 +95,9 @@ found_later class (Some main) classes name its other f =
       one = inr f.one;
       named = f.named;
       its = f.its;
-      entry = ap (λ (m : Option JMain). main_entry (cons_option (option_map (λ (m : JMain). class.name) m) (filter_map entry_class classes)) name (codes "main") 1) its ∙ entry_later class.name (filter_map entry_class classes) name differs ∙ f.entry;
-      java = λ program b vs. ap (λ (m : Option JMain). enter program b (cons_option (option_map (java_main class.name) m) (filter_map java_method classes)) (main_site f.class.name) vs) its ∙ if_false _ _ _ apart ∙ f.java program b vs;
-      kotlin = λ program b vs. ap (λ (m : Option JMain). enter program b (cons_option (option_map (kotlin_main class.name) (option_map main_of m)) (filter_map kotlin_method (classes_of classes))) (main_site f.class.name) vs) its ∙ if_false _ _ _ apart ∙ f.kotlin program b vs;
+      entry = ap (λ (m : Option MainMethod). main_entry (cons_option (option_map (λ (m : MainMethod). class.name) m) (filter_map entry_class classes)) name (codes "main") 1) its ∙ entry_later class.name (filter_map entry_class classes) name differs ∙ f.entry;
+      java = λ program b vs. ap (λ (m : Option MainMethod). enter program b (cons_option (option_map (java_main class.name) m) (filter_map java_method classes)) (main_site f.class.name) vs) its ∙ if_false _ _ _ apart ∙ f.java program b vs;
+      kotlin = λ program b vs. ap (λ (m : Option MainMethod). enter program b (cons_option (option_map (kotlin_main class.name) (option_map main_of m)) (filter_map kotlin_method (classes_of classes))) (main_site f.class.name) vs) its ∙ if_false _ _ _ apart ∙ f.kotlin program b vs;
     }
   where
     not_same : same_name name class.name ≡ false → same_name class.name f.class.name ≡ false
@@ -111,8 +110,8 @@ found_later class (Some main) classes name its other f =
         go false e = refl
 
 -- by the `main` of the first class
-found_in : (class : JClass) (o : Option JMain) (classes : List JClass) (entry : Entry) → class.main ≡ o → (AreMains (filter_map entry_class classes) entry → Found classes entry.class) →
-    AreMains (cons_option (option_map (λ (m : JMain). class.name) o) (filter_map entry_class classes)) entry → Found (class ∷ classes) entry.class
+found_in : (class : MainClass) (o : Option MainMethod) (classes : List MainClass) (entry : Entry) → class.main ≡ o → (AreMains (filter_map entry_class classes) entry → Found classes entry.class) →
+    AreMains (cons_option (option_map (λ (m : MainMethod). class.name) o) (filter_map entry_class classes)) entry → Found (class ∷ classes) entry.class
 found_in class None classes entry its later are = found_later class None classes entry.class its (λ main e. cc) (later are)
 found_in class (Some main) classes entry its later are = go (same_name entry.class class.name) refl are
   where
@@ -123,7 +122,7 @@ found_in class (Some main) classes entry its later are = go (same_name entry.cla
         let bad : true ≡ false = sym (same_name_self class.name) ∙ subst (λ x. same_name x class.name ≡ false) same e in absurd (cc bad)
     go false e (inr h) = found_later class (Some main) classes entry.class its (λ other is. e) (later h)
 
-found : (classes : List JClass) (entry : Entry) → AreMains (filter_map entry_class classes) entry → Found classes entry.class
+found : (classes : List MainClass) (entry : Entry) → AreMains (filter_map entry_class classes) entry → Found classes entry.class
 found [] entry h = absurd h
 found (class ∷ classes) entry h = found_in class class.main classes entry refl (found classes entry) h
 
@@ -137,7 +136,7 @@ main_of_mains [] entry h = absurd h
 main_of_mains (class ∷ names) entry (inl is) = record { method = ap (λ (x : Entry). x.method) is; takes = ap (λ (x : Entry). x.takes) is }
 main_of_mains (class ∷ names) entry (inr h) = main_of_mains names entry h
 
-none_is_configured : {P : Type 0} (java : List JFile) (texts : List Name) (entry : Entry) → AreConfigured java texts entry → P
+none_is_configured : {P : Type 0} (java : List TUnit) (texts : List Name) (entry : Entry) → AreConfigured java texts entry → P
 none_is_configured java [] entry h = absurd h
 none_is_configured java (text ∷ texts) entry (inl h) = absurd h
 none_is_configured java (text ∷ texts) entry (inr h) = none_is_configured java texts entry h
@@ -145,8 +144,8 @@ none_is_configured java (text ∷ texts) entry (inr h) = none_is_configured java
 one_deeper : (n k : ℕ) → suc n + k ≡ suc (n + k)
 one_deeper n k = omega arith
 
-module _ (files : List JFile) where
-  abbrev classes : List JClass
+module _ (files : List TUnit) where
+  abbrev classes : List MainClass
   classes = java_classes_in files
 
   in_java : (entry : Entry) → IsMainOf entry → (site : Site) → main_entry (filter_map entry_class classes) entry.class (codes "main") 1 ≡ Some site → site_of (java_program classes) entry ≡ Some site
@@ -175,6 +174,6 @@ module _ (files : List JFile) where
             ∙ ap (λ (m : Meaning (Unit {0})). turn (returned [] (m (record { locals = []; answers = answers; n = suc n })))) (f.kotlin (kotlin_program (classes_of classes)) (bodies (kotlin_program (classes_of classes)) (n + length answers)) vs));
       }
 
-pub entries_are_entered : (files : List JFile) (configured : List Name) → EntriesAreEntered files configured (files_of files)
+pub entries_are_entered : (files : List TUnit) (configured : List Name) → EntriesAreEntered files configured (files_of files)
 entries_are_entered files configured entry (inl h) = entered_main files entry h
 entries_are_entered files configured entry (inr h) = none_is_configured files configured entry h

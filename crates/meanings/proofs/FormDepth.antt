@@ -1,11 +1,8 @@
 -- The texts of this form enter no body, so every larger depth gives the same thread in both languages.
-use Rattle.std.proofs.Common.{ℕ, List, [], ◌∷◌, map}
-use Rattle.meanings.specs.declared.java.JExpr.{JExpr}
-use Rattle.meanings.specs.declared.java.JExpr.TheOpen.{JExpr-F}
-use Rattle.meanings.specs.declared.java.JStmt.{JStmt}
-use Rattle.meanings.specs.declared.java.JStmt.TheVariants.{Local, Print}
-use Rattle.meanings.specs.declared.java.JMain.{JMain}
-use Rattle.meanings.specs.declared.java.JClass.{JClass}
+use Rattle.std.proofs.Common.{ℕ, List, [], ◌∷◌, map, subst}
+use Rattle.java_typed.specs.declared.exprs.TExpr.{TExpr, roll-TExpr, map-TExpr, ind-TExpr}
+use Rattle.java_typed.specs.declared.exprs.TExpr.TheOpen.{TExpr-F}
+use Rattle.meanings.specs.Taken.{Statement, Declares, Prints, Untaken, MainMethod, MainClass}
 use Rattle.meanings.specs.declared.kotlin.KExpr.{KExpr}
 use Rattle.meanings.specs.declared.kotlin.KExpr.TheOpen.{KExpr-F}
 use Rattle.meanings.specs.declared.kotlin.KStmt.{KStmt}
@@ -13,48 +10,87 @@ use Rattle.meanings.specs.declared.kotlin.KStmt.TheVariants as ks
 use Rattle.meanings.specs.declared.kotlin.KMain.{KMain}
 use Rattle.meanings.specs.declared.kotlin.KClass.{KClass}
 use Rattle.meanings.specs.Values.{Name, Int, Value, is_null}
-use Rattle.meanings.specs.Outcome.{torn}
+use Rattle.meanings.specs.Outcome.{Meaning, torn}
 use Rattle.meanings.specs.Values.{Torn}
 use Rattle.meanings.specs.Operators.{operation}
 use Rattle.meanings.specs.Machine.{Place, print_line}
 use Rattle.meanings.specs.Program.{Body}
 use Rattle.meanings.specs.Static.{KType, is_non_null, Static, declared, past, extended}
-use Rattle.meanings.specs.Java.{java_expr, java_stmt, java_main, java_method, java_program}
+use Rattle.meanings.specs.Java.{java_by, java_expr, java_stmt, java_main, java_method, java_program}
 use Rattle.meanings.specs.Kotlin.{used, kotlin_expr, kotlin_stmt, kotlin_stmts, kotlin_main, kotlin_method, kotlin_program}
 use Rattle.std.specs.Prelude.{Option, Some, None, option_map, filter_map, ◌&&◌}
 use Rattle.std.specs.List.{cons_option}
 use Rattle.meanings.specs.Laws.{SameAtEveryDepth}
-use Rattle.meanings.proofs.Layers.{java_induct, java_at, kotlin_induct, kotlin_at}
+use Rattle.meanings.proofs.Layers.{java_at, kotlin_induct, kotlin_at}
 use Rattle.meanings.proofs.Depth.{asks, Within, with_bodies, AllWithin, none, more, bind_within, step_within, pure_within, local_within, assign_within, if_within, print_line_within, arithmetic_within, binary_within, sequence_within, WithinTexts, WithinProgram, deeper}
+
+torn_within : {A : Type 0} {w : ℕ} → Within w (torn {A = A}) torn
+torn_within = record { by = λ s l. asks Torn }
 
 -- ---- Java
 
 module _ {w : ℕ} (p q : Place) (prints : (v : Value) → Within w (print_line p v) (print_line q v)) where
-  java_expr_within : (e : JExpr) → Within w (java_expr p e) (java_expr q e)
-  java_expr_within = java_induct (λ e. Within w (java_expr p e) (java_expr q e)) (record {
-    local = λ name. rw (java_at p (JExpr-F.Local name), java_at q (JExpr-F.Local name)) (local_within name);
-    number = λ n. rw (java_at p (JExpr-F.Number n), java_at q (JExpr-F.Number n)) (pure_within _);
-    paren = λ e within. rw (java_at p (JExpr-F.Paren e), java_at q (JExpr-F.Paren e)) within;
-    binary = λ a operator b left right. rw (java_at p (JExpr-F.Binary a operator b), java_at q (JExpr-F.Binary a operator b)) (binary_within (arithmetic_within (operation operator) Int Int) left right);
-  })
+  abbrev Case : Type 0
+  Case = (e : TExpr) × Within w (java_expr p e) (java_expr q e)
 
-  java_stmt_within : (s : JStmt) → Within w (java_stmt p s) (java_stmt q s)
-  java_stmt_within (Local name e) = bind_within (java_expr_within e) (assign_within name)
-  java_stmt_within (Print e) = bind_within (java_expr_within e) prints
+  -- each form, from its parts
+  form_within : (y : TExpr-F Case) →
+      Within w (java_by p (map-TExpr TExpr (Meaning Value) (java_expr p) (map-TExpr Case TExpr (λ e. e.0) y))) (java_by q (map-TExpr TExpr (Meaning Value) (java_expr q) (map-TExpr Case TExpr (λ e. e.0) y)))
+  form_within (TExpr-F.Literal v at) = pure_within _
+  form_within (TExpr-F.Constant v inner) = pure_within _
+  form_within (TExpr-F.Local name at k) = local_within name
+  form_within (TExpr-F.Paren at inner) = inner.1
+  form_within (TExpr-F.Binary left o at right) = binary_within (arithmetic_within o Int Int) left.1 right.1
+  form_within (TExpr-F.Null at) = torn_within
+  form_within (TExpr-F.This at is_written k) = torn_within
+  form_within (TExpr-F.Static first member at k) = torn_within
+  form_within (TExpr-F.Field object member at k) = torn_within
+  form_within (TExpr-F.Length array at) = torn_within
+  form_within (TExpr-F.Element array index k) = torn_within
+  form_within (TExpr-F.StaticCall first member at arguments k) = torn_within
+  form_within (TExpr-F.VirtualCall object member at arguments k) = torn_within
+  form_within (TExpr-F.ExactCall object is_super member at arguments k) = torn_within
+  form_within (TExpr-F.Through object inner) = torn_within
+  form_within (TExpr-F.Step is_prefix o at target k) = torn_within
+  form_within (TExpr-F.Unary o at inner) = torn_within
+  form_within (TExpr-F.Concat left at right) = torn_within
+  form_within (TExpr-F.Same left is_equal at right) = torn_within
+  form_within (TExpr-F.Instanceof inner at k) = torn_within
+  form_within (TExpr-F.Cast at k inner) = torn_within
+  form_within (TExpr-F.Convert c inner) = torn_within
+  form_within (TExpr-F.Conditional test one other k) = torn_within
+  form_within (TExpr-F.Assign target at e) = torn_within
+  form_within (TExpr-F.Compound target o k at e) = torn_within
+  form_within (TExpr-F.Append target at e) = torn_within
+  form_within (TExpr-F.Lambda lambda inner) = torn_within
+  form_within (TExpr-F.LambdaBlock lambda number) = torn_within
+  form_within (TExpr-F.New at k member arguments body) = torn_within
+  form_within (TExpr-F.NewArray at k size) = torn_within
+  form_within (TExpr-F.NewFilled at k elements) = torn_within
 
-  java_stmts_within : (body : List JStmt) → AllWithin w (map (java_stmt p) body) (map (java_stmt q) body)
+  java_expr_within : (e : TExpr) → Within w (java_expr p e) (java_expr q e)
+  java_expr_within = ind-TExpr (λ e. Within w (java_expr p e) (java_expr q e)) (λ x y is.
+      subst (λ (z : TExpr-F TExpr). Within w (java_expr p (roll-TExpr z)) (java_expr q (roll-TExpr z))) is
+      (rw (java_at p (map-TExpr Case TExpr (λ e. e.0) y), java_at q (map-TExpr Case TExpr (λ e. e.0) y)) (form_within y)))
+
+  java_stmt_within : (s : Statement) → Within w (java_stmt p s) (java_stmt q s)
+  java_stmt_within (Declares name e) = bind_within (java_expr_within e) (assign_within name)
+  java_stmt_within (Prints e) = bind_within (java_expr_within e) prints
+  java_stmt_within Untaken = torn_within
+
+  java_stmts_within : (body : List Statement) → AllWithin w (map (java_stmt p) body) (map (java_stmt q) body)
   java_stmts_within [] = none
   java_stmts_within (s ∷ body) = more (java_stmt_within s) (java_stmts_within body)
 
-java_method_within : (class : Name) (main : Option JMain) (bodies : List Body) → WithinTexts bodies → WithinTexts (cons_option (option_map (java_main class) main) bodies)
+java_method_within : (class : Name) (main : Option MainMethod) (bodies : List Body) → WithinTexts bodies → WithinTexts (cons_option (option_map (java_main class) main) bodies)
 java_method_within class None bodies h = h
 java_method_within class (Some main) bodies h = (record { by = λ w p {b} {b'} h. sequence_within (java_stmts_within (with_bodies p b) (with_bodies p b') (print_line_within p h) main.body) }, h)
 
-java_methods_within : (classes : List JClass) → WithinTexts (filter_map java_method classes)
+java_methods_within : (classes : List MainClass) → WithinTexts (filter_map java_method classes)
 java_methods_within [] = tt
 java_methods_within (class ∷ classes) = java_method_within class.name class.main _ (java_methods_within classes)
 
-java_within : (classes : List JClass) → WithinProgram (java_program classes)
+java_within : (classes : List MainClass) → WithinProgram (java_program classes)
 java_within classes = record {
   methods = java_methods_within classes;
   constructors = tt;
@@ -62,13 +98,10 @@ java_within classes = record {
   initializers = tt;
 }
 
-pub java_at_every_depth : (classes : List JClass) → SameAtEveryDepth (java_program classes)
+pub java_at_every_depth : (classes : List MainClass) → SameAtEveryDepth (java_program classes)
 java_at_every_depth classes = deeper (java_within classes)
 
 -- ---- Kotlin
-
-torn_within : {w : ℕ} → Within w (torn {A = Value}) torn
-torn_within = record { by = λ s l. asks Torn }
 
 used_within : {w : ℕ} (type : Option KType) (v : Value) → Within w (used type v) (used type v)
 used_within None v = pure_within v

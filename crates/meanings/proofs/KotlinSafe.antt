@@ -2,11 +2,6 @@
 use Rattle.std.proofs.Common.{◌≡◌, ℕ, zero, suc, ◌<◌, Bool, true, false, ◌&&◌, ◌==◌, List, [], ◌∷◌, ◌++◌, length, map, Option, Some, None, slice_get, slice_index_or, arith, refl, sym, ◌∙◌, ap, subst, if◌then◌else◌}
 use Rattle.std.specs.Prelude.{option_map, filter_map, codes}
 use Rattle.std.specs.List.{cons_option}
-use Rattle.meanings.specs.declared.java.JExpr.{JExpr}
-use Rattle.meanings.specs.declared.java.JStmt.{JStmt}
-use Rattle.meanings.specs.declared.java.JStmt.TheVariants.{Local, Print}
-use Rattle.meanings.specs.declared.java.JMain.{JMain}
-use Rattle.meanings.specs.declared.java.JClass.{JClass}
 use Rattle.meanings.specs.Convert.{statement_of, main_of, classes_of}
 use Rattle.meanings.specs.Values.{Name, same_name, Simple, Field, Site, same_site, Objects, Value, Null, Integer, Boolean, Units, Class, Companion, Object, Array, Lambda, Print as PrintStep, Answer, text_of}
 use Rattle.meanings.specs.Outcome.{Locals, get, State, Outcome, Jump, Exits, Returns, Throws, then_do, ◌>>◌}
@@ -15,6 +10,8 @@ use Rattle.meanings.specs.Program.{Program, Body, main_site, main_entry, place}
 use Rattle.meanings.specs.World.{World}
 use Rattle.meanings.specs.Runs.{run, NeverTorn}
 use Rattle.meanings.specs.Entries.{Strings, Input, AllStrings, passed, first_world, first_threads}
+use Rattle.java_typed.specs.declared.exprs.TExpr.{TExpr}
+use Rattle.meanings.specs.Taken.{is_taken, Statement, Declares, Prints, Untaken, are_taken, MainMethod, MainClass}
 use Rattle.meanings.specs.Java.{entry_class}
 use Rattle.meanings.specs.Static.{KType, IntType, StringType, ArrayType, Nullable, Static, extended, main_static}
 use Rattle.meanings.specs.Kotlin.{kotlin_stmts, kotlin_main, kotlin_method, kotlin_program, KotlinThread}
@@ -25,6 +22,8 @@ use Rattle.meanings.proofs.SafeLaws.{same_safe, bind_sound, pure_sound, weaken}
 use Rattle.meanings.proofs.SafeSteps.{as_it_was, Thrown, Answers, OfValue, free_lasting, done_sound, reply_is}
 use Rattle.meanings.proofs.SameValues.{same_site_self}
 use Rattle.meanings.proofs.FormDepth.{kotlin_at_every_depth}
+use Rattle.meanings.proofs.Layers.{both_are}
+use Rattle.meanings.proofs.Units.{MainTaken, ClassesTaken}
 use Rattle.meanings.proofs.Schedules.{never_torn_where_typed}
 use Rattle.meanings.proofs.SameText.{is_plain, LocalsGiven, more_given, value, value_given, kotlin_expr_is, prints, print_line_is}
 
@@ -33,13 +32,13 @@ use Rattle.meanings.proofs.SameText.{is_plain, LocalsGiven, more_given, value, v
 abbrev no_value : KType
 no_value = Nullable IntType
 
-abbrev main_signature : Name → JMain → Signature
+abbrev main_signature : Name → MainMethod → Signature
 main_signature class main = record { site = main_site class; parameters = (main.parameter, ArrayType StringType) ∷ []; result = no_value }
 
-abbrev signature : JClass → Option Signature
+abbrev signature : MainClass → Option Signature
 signature class = option_map (main_signature class.name) class.main
 
-abbrev pub table : List JClass → Table
+abbrev pub table : List MainClass → Table
 table classes = record {
   methods = filter_map signature classes;
   constructors = [];
@@ -99,28 +98,31 @@ module _ (t : Table) (i : ℕ) where
 
   -- ---- texts
 
-  local_is : (p : Place) (name : Name) (e : JExpr) (more : List JStmt) (static : Static) (s : State) → LocalsGiven s.locals →
-      kotlin_stmts (map statement_of (Local name e ∷ more)) static p s ≡ kotlin_stmts (map statement_of more) (extended static (statement_of (Local name e))) p (record s { locals = (name, value s.locals e) ∷ s.locals })
-  local_is p name e more static s h = rw (kotlin_expr_is p e static s h) refl
+  local_is : (p : Place) (name : Name) (e : TExpr) → is_taken e ≡ true → (more : List Statement) (static : Static) (s : State) → LocalsGiven s.locals →
+      kotlin_stmts (map statement_of (Declares name e ∷ more)) static p s ≡ kotlin_stmts (map statement_of more) (extended static (statement_of (Declares name e))) p (record s { locals = (name, value s.locals e) ∷ s.locals })
+  local_is p name e taken more static s h = rw (kotlin_expr_is p e taken static s h) refl
 
-  print_is : (p : Place) (e : JExpr) (more : List JStmt) (static : Static) (s : State) → LocalsGiven s.locals →
-      kotlin_stmts (map statement_of (Print e ∷ more)) static p s ≡ (prints (value s.locals e) >> kotlin_stmts (map statement_of more) (extended static (statement_of (Print e))) p) s
-  print_is p e more static s h =
-      rw (kotlin_expr_is p e static s h)
-      (ap (λ (o : Outcome (Unit {0})). then_do o (λ a. kotlin_stmts (map statement_of more) (extended static (statement_of (Print e))) p)) (print_line_is p (value s.locals e) s (value_given s.locals h e)))
+  print_is : (p : Place) (e : TExpr) → is_taken e ≡ true → (more : List Statement) (static : Static) (s : State) → LocalsGiven s.locals →
+      kotlin_stmts (map statement_of (Prints e ∷ more)) static p s ≡ (prints (value s.locals e) >> kotlin_stmts (map statement_of more) (extended static (statement_of (Prints e))) p) s
+  print_is p e taken more static s h =
+      rw (kotlin_expr_is p e taken static s h)
+      (ap (λ (o : Outcome (Unit {0})). then_do o (λ a. kotlin_stmts (map statement_of more) (extended static (statement_of (Prints e))) p)) (print_line_is p (value s.locals e) s (value_given s.locals h e taken)))
 
-  text_sound : (p : Place) (body : List JStmt) (static : Static) (K : Known) (l : Locals) (n : ℕ) → Free K → LocalsGiven l → Sound t i (Ends t i no_value) (Leaves t i no_value) K (kotlin_stmts (map statement_of body) static p) l n
-  text_sound p [] static K l n free h = pure_sound t i (free, (IntType, refl))
-  text_sound p (Local name e ∷ more) static K l n free h =
-      let rest : Sound t i (Ends t i no_value) (Leaves t i no_value) K (kotlin_stmts (map statement_of more) (extended static (statement_of (Local name e))) p) ((name, value l e) ∷ l) n =
-      text_sound p more (extended static (statement_of (Local name e))) K ((name, value l e) ∷ l) n free (more_given name (value l e) l (value_given l h e) h) in
-      record { by = same_safe t i (λ xs. sym (local_is p name e more static (record { locals = l; answers = xs; n = n }) h)) rest.by }
-  text_sound p (Print e ∷ more) static K l n free h =
-      let both : Sound t i (Ends t i no_value) (Leaves t i no_value) K (prints (value l e) >> kotlin_stmts (map statement_of more) (extended static (statement_of (Print e))) p) l n =
+  text_sound : (p : Place) (body : List Statement) → are_taken body ≡ true → (static : Static) (K : Known) (l : Locals) (n : ℕ) → Free K → LocalsGiven l → Sound t i (Ends t i no_value) (Leaves t i no_value) K (kotlin_stmts (map statement_of body) static p) l n
+  text_sound p [] taken static K l n free h = pure_sound t i (free, (IntType, refl))
+  text_sound p (Declares name e ∷ more) taken static K l n free h =
+      let parts = both_are (is_taken e) (are_taken more) taken in
+      let rest : Sound t i (Ends t i no_value) (Leaves t i no_value) K (kotlin_stmts (map statement_of more) (extended static (statement_of (Declares name e))) p) ((name, value l e) ∷ l) n =
+      text_sound p more parts.1 (extended static (statement_of (Declares name e))) K ((name, value l e) ∷ l) n free (more_given name (value l e) l (value_given l h e parts.0) h) in
+      record { by = same_safe t i (λ xs. sym (local_is p name e parts.0 more static (record { locals = l; answers = xs; n = n }) h)) rest.by }
+  text_sound p (Prints e ∷ more) taken static K l n free h =
+      let parts = both_are (is_taken e) (are_taken more) taken in
+      let both : Sound t i (Ends t i no_value) (Leaves t i no_value) K (prints (value l e) >> kotlin_stmts (map statement_of more) (extended static (statement_of (Prints e))) p) l n =
       bind_sound t i (prints_sound (value l e) K l n free) (λ K' u l' n' le q.
-      subst (λ (l' : Locals). Sound t i (Ends t i no_value) (Leaves t i no_value) K' (kotlin_stmts (map statement_of more) (extended static (statement_of (Print e))) p) l' n') (sym q.0)
-      (text_sound p more (extended static (statement_of (Print e))) K' l n' q.1 h)) in
-      record { by = same_safe t i (λ xs. sym (print_is p e more static (record { locals = l; answers = xs; n = n }) h)) both.by }
+      subst (λ (l' : Locals). Sound t i (Ends t i no_value) (Leaves t i no_value) K' (kotlin_stmts (map statement_of more) (extended static (statement_of (Prints e))) p) l' n') (sym q.0)
+      (text_sound p more parts.1 (extended static (statement_of (Prints e))) K' l n' q.1 h)) in
+      record { by = same_safe t i (λ xs. sym (print_is p e parts.0 more static (record { locals = l; answers = xs; n = n }) h)) both.by }
+  text_sound p (Untaken ∷ more) taken static K l n free h = absurd (cc taken)
 
 -- ---- the program
 
@@ -134,30 +136,30 @@ parameter_given t K l parameter holds unset name = go (same_name parameter name)
     go true e = plain_array t K (get l name) (holds name (ArrayType StringType) (ap (λ (b : Bool). if b then Some (ArrayType StringType) else None) e))
     go false e = ap is_plain (unset name (ap (λ (b : Bool). if b then Some (ArrayType StringType) else None) e))
 
-module _ (classes : List JClass) where
+module _ (classes : List MainClass) where
   abbrev kotlin : Program
   kotlin = kotlin_program (classes_of classes)
 
-  typed_main : (class : Name) (main : JMain) → TypedMethod (table classes) kotlin (main_signature class main) (kotlin_main class (main_of main))
-  typed_main class main = record {
+  typed_main : (class : Name) (main : MainMethod) → are_taken main.body ≡ true → TypedMethod (table classes) kotlin (main_signature class main) (kotlin_main class (main_of main))
+  typed_main class main taken = record {
     site = refl;
     parameters = refl;
     different = (λ y e. refl, tt);
     text = λ i b ok K l n free settled holds unset.
-        text_sound (table classes) i (place kotlin b (Simple class)) main.body (main_static class main.parameter) K l n free (parameter_given (table classes) K l main.parameter holds unset);
+        text_sound (table classes) i (place kotlin b (Simple class)) main.body taken (main_static class main.parameter) K l n free (parameter_given (table classes) K l main.parameter holds unset);
   }
 
-  typed_first : (class : Name) (main : Option JMain) (ms : List Signature) (bs : List Body) → AllMethods (table classes) kotlin ms bs →
+  typed_first : (class : Name) (main : Option MainMethod) → MainTaken main → (ms : List Signature) (bs : List Body) → AllMethods (table classes) kotlin ms bs →
       AllMethods (table classes) kotlin (cons_option (option_map (main_signature class) main) ms) (cons_option (option_map (kotlin_main class) (option_map main_of main)) bs)
-  typed_first class None ms bs h = h
-  typed_first class (Some main) ms bs h = (typed_main class main, h)
+  typed_first class None taken ms bs h = h
+  typed_first class (Some main) taken ms bs h = (typed_main class main taken, h)
 
-  typed_all : (list : List JClass) → AllMethods (table classes) kotlin (filter_map signature list) (filter_map kotlin_method (classes_of list))
-  typed_all [] = tt
-  typed_all (class ∷ list) = typed_first class.name class.main _ _ (typed_all list)
+  typed_all : (list : List MainClass) → ClassesTaken list → AllMethods (table classes) kotlin (filter_map signature list) (filter_map kotlin_method (classes_of list))
+  typed_all [] taken = tt
+  typed_all (class ∷ list) taken = typed_first class.name class.main taken.0 _ _ (typed_all list taken.1)
 
-  pub typed_kotlin : TypedProgram (table classes) kotlin
-  typed_kotlin = record { methods = typed_all classes; constructors = tt; initializers = λ class f need. cc; calm = λ class f need. refl; idle = λ class f need. cc }
+  pub typed_kotlin : ClassesTaken classes → TypedProgram (table classes) kotlin
+  typed_kotlin taken = record { methods = typed_all classes taken; constructors = tt; initializers = λ class f need. cc; calm = λ class f need. refl; idle = λ class f need. cc }
 
 -- ---- the first world
 
@@ -174,7 +176,7 @@ string_at t K (Array elements size k ∷ vs) h zero le = cc
 string_at t K (Lambda site k captured ∷ vs) h zero le = cc
 string_at t K (v ∷ vs) h (suc j) le = string_at t K vs h.1 j (omega (arith, le))
 
-module _ (classes : List JClass) (input : Input) (strings : AllStrings input.arguments) where
+module _ (classes : List MainClass) (input : Input) (strings : AllStrings input.arguments) where
   abbrev pub first_known : Known
   first_known = record { shapes = AnArrayFor StringType (length input.arguments) ∷ []; world = first_world (kotlin_program (classes_of classes)) Strings input }
 
@@ -215,18 +217,18 @@ module _ (classes : List JClass) (input : Input) (strings : AllStrings input.arg
 
 record Listed (ms : List Signature) (site : Site) : Type 0 where
   class : Name
-  main : JMain
+  main : MainMethod
   is : find ms site ≡ Some (main_signature class main)
 
-listed_by : (class : Name) (main : JMain) (ms : List Signature) (site : Site) (b : Bool) → same_site (main_site class) site ≡ b → (b ≡ false → Listed ms site) → Listed (main_signature class main ∷ ms) site
+listed_by : (class : Name) (main : MainMethod) (ms : List Signature) (site : Site) (b : Bool) → same_site (main_site class) site ≡ b → (b ≡ false → Listed ms site) → Listed (main_signature class main ∷ ms) site
 listed_by class main ms site true e h = record { class = class; main = main; is = ap (λ (b : Bool). if b then Some (main_signature class main) else find ms site) e }
 listed_by class main ms site false e h =
     let later : Listed ms site = h refl in
     record { class = later.class; main = later.main; is = ap (λ (b : Bool). if b then Some (main_signature class main) else find ms site) e ∙ later.is }
 
-listed_first : (class : Name) (main : Option JMain) (ms : List Signature) (names : List Name) (name method : Name) (count : ℕ) (site : Site) →
+listed_first : (class : Name) (main : Option MainMethod) (ms : List Signature) (names : List Name) (name method : Name) (count : ℕ) (site : Site) →
     (main_entry names name method count ≡ Some site → Listed ms site) →
-    main_entry (cons_option (option_map (λ (m : JMain). class) main) names) name method count ≡ Some site → Listed (cons_option (option_map (main_signature class) main) ms) site
+    main_entry (cons_option (option_map (λ (m : MainMethod). class) main) names) name method count ≡ Some site → Listed (cons_option (option_map (main_signature class) main) ms) site
 listed_first class None ms names name method count site h e = h e
 listed_first class (Some main) ms names name method count site h e = go (same_name name class && same_name method (codes "main") && (count == 1)) e
   where
@@ -237,11 +239,11 @@ listed_first class (Some main) ms names name method count site h e = go (same_na
         listed_by class main ms site true here (λ no. cc)
     go false e = listed_by class main ms site (same_site (main_site class) site) refl (λ no. h e)
 
-listed : (classes : List JClass) (name method : Name) (count : ℕ) (site : Site) → main_entry (filter_map entry_class classes) name method count ≡ Some site → Listed (filter_map signature classes) site
+listed : (classes : List MainClass) (name method : Name) (count : ℕ) (site : Site) → main_entry (filter_map entry_class classes) name method count ≡ Some site → Listed (filter_map signature classes) site
 listed [] name method count site e = cc
 listed (class ∷ classes) name method count site e = listed_first class.name class.main _ _ name method count site (listed classes name method count site) e
 
-module _ (classes : List JClass) (input : Input) (strings : AllStrings input.arguments) where
+module _ (classes : List MainClass) (input : Input) (strings : AllStrings input.arguments) where
   first_enters : (o : Option Site) → ((site : Site) → o ≡ Some site → Listed (filter_map signature classes) site) → AllEnter (table classes) (first_known classes input strings) (first_threads o (passed Strings input.arguments))
   first_enters None h = tt
   first_enters (Some site) h =
@@ -256,8 +258,8 @@ module _ (classes : List JClass) (input : Input) (strings : AllStrings input.arg
       )
 
   -- no run from an entry point asks Torn
-  pub kotlin_never_torn : (class method : Name) (count n : ℕ) (schedule : List ℕ) →
+  pub kotlin_never_torn : ClassesTaken classes → (class method : Name) (count n : ℕ) (schedule : List ℕ) →
       NeverTorn (run (KotlinThread (classes_of classes)) n (first_world (kotlin_program (classes_of classes)) Strings input) (first_threads (main_entry (filter_map entry_class classes) class method count) (passed Strings input.arguments)) schedule)
-  kotlin_never_torn class method count n schedule =
-      (never_torn_where_typed (table classes) (kotlin_program (classes_of classes)) (typed_kotlin classes) (first_known classes input strings) (first_ok classes input strings) refl _
+  kotlin_never_torn taken class method count n schedule =
+      (never_torn_where_typed (table classes) (kotlin_program (classes_of classes)) (typed_kotlin classes taken) (first_known classes input strings) (first_ok classes input strings) refl _
       (first_enters (main_entry (filter_map entry_class classes) class method count) (listed classes class method count))).whole (kotlin_at_every_depth (classes_of classes)) n schedule

@@ -1,6 +1,7 @@
 mod Worked
 mod WorkedMachine
-mod WorkedShared
+pub mod WorkedShared
+mod WorkedForms
 pub mod Layers
 pub mod Starts
 pub mod RunLaws
@@ -32,3 +33,4 @@ pub mod Spelling
 pub mod Numbers
 pub mod Texts
 pub mod LawsToCite
+pub mod Units

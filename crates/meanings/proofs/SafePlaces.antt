@@ -1,15 +1,15 @@
 -- Reads and stores of places are sound: what is read at a place that was stored, or isn't required, is of its type.
-use Rattle.std.proofs.Common.{◌≡◌, ◌⊎◌, inl, inr, ℕ, zero, suc, ◌<◌, ℤ, pos, negsuc, Bool, true, false, ◌&&◌, List, [], ◌∷◌, length, Some, slice_get, slice_index_or, refl, sym, ◌∙◌, ap, subst, arith, if◌then◌else◌}
+use Rattle.std.proofs.Common.{◌≡◌, inl, ℕ, zero, suc, ◌<◌, ℤ, pos, negsuc, Bool, true, false, ◌&&◌, List, [], ◌∷◌, Some, slice_get, refl, sym, ◌∙◌, ap, subst, if◌then◌else◌}
 use Rattle.std.specs.Prelude.{codes, nat_lt}
 use Rattle.std.proofs.lemmas.Bool.{ltb-true}
 use Rattle.meanings.specs.Values.{Name, ClassName, Field, same_field, Value, Null, Object, Array, Captured, Elements, Step, Get, Put, GetStatic, PutStatic, GetElem, PutElem, Answer, is_null, integer_in, is_true}
-use Rattle.meanings.specs.Outcome.{Locals, State, Exit, Jump, Exits, Returns, Throws, Outcome, Jumps, Meaning, pure, ◌>>=◌, ◌>>◌, torn, pay}
-use Rattle.meanings.specs.Machine.{ask_value, ask_done, raise, check_null, get_field, put_field, get_static, put_static, index_in, get_element, put_element, choose, caught, catch, turns, loop, is_break, is_continue}
+use Rattle.meanings.specs.Outcome.{Locals, Exit, Jump, Exits, Returns, Throws, Jumps, Meaning, pure, torn, pay}
+use Rattle.meanings.specs.Machine.{ask_value, ask_done, raise, check_null, get_field, put_field, get_static, put_static, index_in, get_element, put_element, caught, catch, turns, loop, is_break, is_continue}
 use Rattle.meanings.specs.World.{World, stored, stored_or_default}
 use Rattle.meanings.specs.Static.{KType, IntType, StringType, ClassType, ArrayType, Nullable, is_non_null}
 use Rattle.meanings.specs.Kotlin.{used}
 use Rattle.meanings.specs.Tables.{Table, Fits, TypedDefaults, Made, AnInstance, AnArrayFor, Known, is_stored, fields_at, Later, Ok, Has, IsInstance, IsArray, Moved}
-use Rattle.meanings.specs.Safety.{with_made, Safe, gives, jumps, is_busy, Sound}
+use Rattle.meanings.specs.Safety.{Safe, gives, jumps, is_busy, Sound}
 use Rattle.meanings.proofs.Lists.{get_within}
 use Rattle.meanings.proofs.KnownLaws.{later_on, has_later}
 use Rattle.meanings.proofs.WorldLaws.{same_shapes, heap_put, put_at, put_moved, put_stored, static_put, static_moved, static_stored, elem_moved, stays_moved}

@@ -2,14 +2,16 @@
 use Rattle.std.proofs.Common.{◌≡◌, ℕ, zero, suc, ◌+◌, pos, Bool, true, false, ◌&&◌, List, [], ◌∷◌, ◌++◌, map, ◌∙◌, length, Option, Some, None, if◌then◌else◌, refl, ap, sym, subst}
 use Rattle.std.specs.Prelude.{option_map, filter_map}
 use Rattle.std.specs.List.{cons_option}
-use Rattle.meanings.specs.declared.java.JExpr.{JExpr, map-JExpr, fold-JExpr, fold-roll-JExpr, roll-JExpr}
-use Rattle.meanings.specs.declared.java.JExpr.TheOpen.{JExpr-F}
+use Rattle.java_tree.specs.declared.tokens.Position.{Position}
+use Rattle.j2k_base.specs.declared.constants.Const.TheVariants as const
+use Rattle.j2k_base.specs.declared.constants.Value.TheVariants as constant
+use Rattle.j2k_base.specs.declared.constants.Op2.{Op2}
+use Rattle.j2k_base.specs.declared.constants.Op2.TheVariants as op
+use Rattle.java_typed.specs.declared.exprs.TExpr.{TExpr, map-TExpr, fold-TExpr, fold-roll-TExpr, roll-TExpr}
+use Rattle.java_typed.specs.declared.exprs.TExpr.TheOpen.{TExpr-F}
 use Rattle.meanings.specs.declared.kotlin.KExpr.TheOpen.{KExpr-F}
 use Rattle.meanings.specs.declared.kotlin.KExpr.TheVariants as ke
-use Rattle.meanings.specs.declared.java.JStmt.{JStmt}
-use Rattle.meanings.specs.declared.java.JStmt.TheVariants.{Local, Print}
-use Rattle.meanings.specs.declared.java.JMain.{JMain}
-use Rattle.meanings.specs.declared.java.JClass.{JClass}
+use Rattle.meanings.specs.Taken.{is_operator, operator_of, is_taken, Statement, Declares, Prints, Untaken, are_taken, MainMethod, MainClass}
 use Rattle.meanings.specs.Convert.{expression_of, statement_of, main_of, classes_of}
 use Rattle.meanings.specs.declared.operators.Operator.{Operator}
 use Rattle.meanings.specs.declared.operators.Operator.TheVariants.{Plus, Minus, Times}
@@ -21,9 +23,10 @@ use Rattle.meanings.specs.Outcome.{Locals, get, State, Exits, Returns, Throws, O
 use Rattle.meanings.specs.Machine.{Bodies, Place, valued, arithmetic, received, ask_done, print_line, returned, sequence}
 use Rattle.meanings.specs.Program.{Program, Body, Start, Enters, Runs, thread_from, turn, Turn, Next, IsBusy, Ended, at_end, enter, place, bodies, main_site}
 use Rattle.meanings.specs.Static.{KType, type_of, is_non_null, Static, declared, past, extended, main_static}
-use Rattle.meanings.specs.Java.{java_expr, java_stmt, java_main, java_method, java_program, JavaThread}
+use Rattle.meanings.specs.Java.{constant_value, java_expr, java_stmt, java_main, java_method, java_program, JavaThread}
 use Rattle.meanings.specs.Kotlin.{used, operator_kind, kotlin_expr, kotlin_stmts, kotlin_main, kotlin_method, kotlin_program, KotlinThread}
-use Rattle.meanings.proofs.Layers.{java_induct, java_at, convert_at, kotlin_at}
+use Rattle.meanings.proofs.Layers.{both_are, java_induct, java_at, convert_at, kotlin_at}
+use Rattle.meanings.proofs.Units.{MainTaken, ClassesTaken}
 
 -- ---- no value is null, nor an object, whose text would be a body's
 
@@ -87,33 +90,61 @@ operates_plain Plus v w = refl
 operates_plain Minus v w = refl
 operates_plain Times v w = refl
 
-abbrev value_by : Locals → JExpr-F Value → Value
-value_by locals (JExpr-F.Local name) = get locals name
-value_by locals (JExpr-F.Number n) = Integer Int (pos n)
-value_by locals (JExpr-F.Paren v) = v
-value_by locals (JExpr-F.Binary v operator w) = operates operator v w
+-- an operator that is taken is that of its spelling
+operation_is : (o : Op2) → is_operator o ≡ true → (v w : Value) (s : State) → arithmetic o Int Int v w s ≡ Gives (operates (operator_of o) v w) s
+operation_is op.Add h v w s = refl
+operation_is op.Sub h v w s = refl
+operation_is op.Mul h v w s = refl
+operation_is op.Div h v w s = absurd (cc h)
+operation_is op.Rem h v w s = absurd (cc h)
+operation_is op.Shl h v w s = absurd (cc h)
+operation_is op.Shr h v w s = absurd (cc h)
+operation_is op.Ushr h v w s = absurd (cc h)
+operation_is op.And h v w s = absurd (cc h)
+operation_is op.Or h v w s = absurd (cc h)
+operation_is op.Xor h v w s = absurd (cc h)
+operation_is op.Lt h v w s = absurd (cc h)
+operation_is op.Le h v w s = absurd (cc h)
+operation_is op.Gt h v w s = absurd (cc h)
+operation_is op.Ge h v w s = absurd (cc h)
+operation_is op.Eq h v w s = absurd (cc h)
+operation_is op.Ne h v w s = absurd (cc h)
+operation_is op.AndAlso h v w s = absurd (cc h)
+operation_is op.OrElse h v w s = absurd (cc h)
 
-pub value : Locals → JExpr → Value
-value locals = fold-JExpr Value (value_by locals)
+abbrev value_by : Locals → TExpr-F Value → Value
+value_by locals (TExpr-F.Literal v at) = constant_value v
+value_by locals (TExpr-F.Local name at k) = get locals name
+value_by locals (TExpr-F.Paren at v) = v
+value_by locals (TExpr-F.Binary v o at w) = operates (operator_of o) v w
+value_by locals _ = Null
 
-value_at : (locals : Locals) (x : JExpr-F JExpr) → value locals (roll-JExpr x) ≡ value_by locals (map-JExpr JExpr Value (value locals) x)
+pub value : Locals → TExpr → Value
+value locals = fold-TExpr Value (value_by locals)
+
+value_at : (locals : Locals) (x : TExpr-F TExpr) → value locals (roll-TExpr x) ≡ value_by locals (map-TExpr TExpr Value (value locals) x)
 unfolding value
-value_at locals x = fold-roll-JExpr Value (value_by locals) x
+value_at locals x = fold-roll-TExpr Value (value_by locals) x
 
-pub value_given : (locals : Locals) → LocalsGiven locals → (e : JExpr) → is_plain (value locals e) ≡ true
+-- a literal of n
+abbrev literal : ℕ → Position → TExpr-F TExpr
+literal n at = TExpr-F.Literal (constant.Number (const.Int (pos n))) at
+
+pub value_given : (locals : Locals) → LocalsGiven locals → (e : TExpr) → is_taken e ≡ true → is_plain (value locals e) ≡ true
 value_given locals h = java_induct (λ e. is_plain (value locals e) ≡ true) (record {
-  local = λ name. rw (value_at locals (JExpr-F.Local name)) (h name);
-  number = λ n. rw (value_at locals (JExpr-F.Number n)) refl;
-  paren = λ e given. rw (value_at locals (JExpr-F.Paren e)) given;
-  binary = λ a operator b left right. rw (value_at locals (JExpr-F.Binary a operator b)) (operates_plain operator (value locals a) (value locals b));
+  local = λ name at k. rw (value_at locals (TExpr-F.Local name at k)) (h name);
+  number = λ n at. rw (value_at locals (literal n at)) refl;
+  paren = λ at e given. rw (value_at locals (TExpr-F.Paren at e)) given;
+  binary = λ a o at b is left right. rw (value_at locals (TExpr-F.Binary a o at b)) (operates_plain (operator_of o) (value locals a) (value locals b));
 })
 
-java_expr_is : (p : Place) (e : JExpr) (s : State) → java_expr p e s ≡ Gives (value s.locals e) s
+java_expr_is : (p : Place) (e : TExpr) → is_taken e ≡ true → (s : State) → java_expr p e s ≡ Gives (value s.locals e) s
 java_expr_is p = java_induct (λ e. (s : State) → java_expr p e s ≡ Gives (value s.locals e) s) (record {
-  local = λ name s. rw (java_at p (JExpr-F.Local name), value_at s.locals (JExpr-F.Local name)) refl;
-  number = λ n s. rw (java_at p (JExpr-F.Number n), value_at s.locals (JExpr-F.Number n)) refl;
-  paren = λ e is s. rw (java_at p (JExpr-F.Paren e), value_at s.locals (JExpr-F.Paren e)) (is s);
-  binary = λ a operator b left right s. rw (java_at p (JExpr-F.Binary a operator b), value_at s.locals (JExpr-F.Binary a operator b), left s, right s) (operates_is operator (value s.locals a) (value s.locals b) s);
+  local = λ name at k s. rw (java_at p (TExpr-F.Local name at k), value_at s.locals (TExpr-F.Local name at k)) refl;
+  number = λ n at s. rw (java_at p (literal n at), value_at s.locals (literal n at)) refl;
+  paren = λ at e is s. rw (java_at p (TExpr-F.Paren at e), value_at s.locals (TExpr-F.Paren at e)) (is s);
+  binary = λ a o at b is left right s.
+      rw (java_at p (TExpr-F.Binary a o at b), value_at s.locals (TExpr-F.Binary a o at b), left s, right s) (operation_is o is (value s.locals a) (value s.locals b) s);
 })
 
 -- what isn't null is no Torn, whatever the type
@@ -134,16 +165,16 @@ operator_is_int (Some type) = refl
 operates_as : (kind : Kind) → kind ≡ Int → (operator : Operator) (v w : Value) (s : State) → arithmetic (operation operator) kind kind v w s ≡ Gives (operates operator v w) s
 operates_as kind is operator v w s = ap (λ (k : Kind). arithmetic (operation operator) k k v w s) is ∙ operates_is operator v w s
 
-pub kotlin_expr_is : (p : Place) (e : JExpr) (static : Static) (s : State) → LocalsGiven s.locals → kotlin_expr (expression_of e) static p s ≡ Gives (value s.locals e) s
+pub kotlin_expr_is : (p : Place) (e : TExpr) → is_taken e ≡ true → (static : Static) (s : State) → LocalsGiven s.locals → kotlin_expr (expression_of e) static p s ≡ Gives (value s.locals e) s
 kotlin_expr_is p = java_induct (λ e. (static : Static) (s : State) → LocalsGiven s.locals → kotlin_expr (expression_of e) static p s ≡ Gives (value s.locals e) s) (record {
-  local = λ name static s h.
-      rw (convert_at (JExpr-F.Local name), kotlin_at (KExpr-F.Local name), value_at s.locals (JExpr-F.Local name))
+  local = λ name at k static s h.
+      rw (convert_at (TExpr-F.Local name at k), kotlin_at (KExpr-F.Local name), value_at s.locals (TExpr-F.Local name at k))
       (used_is (declared static name) (get s.locals name) s (plain_not_null _ (h name)));
-  number = λ n static s h. rw (convert_at (JExpr-F.Number n), kotlin_at (KExpr-F.Number n), value_at s.locals (JExpr-F.Number n)) refl;
-  paren = λ e is static s h. rw (convert_at (JExpr-F.Paren e), kotlin_at (KExpr-F.Paren (expression_of e)), value_at s.locals (JExpr-F.Paren e)) (is static s h);
-  binary = λ a operator b left right static s h.
-      rw (convert_at (JExpr-F.Binary a operator b), kotlin_at (KExpr-F.Binary (expression_of a) operator (expression_of b)), value_at s.locals (JExpr-F.Binary a operator b), left static s h, right (past (expression_of a) static) s h)
-      (operates_as _ (operator_is_int (type_of (ke.Binary (expression_of a) operator (expression_of b)) static)) operator (value s.locals a) (value s.locals b) s);
+  number = λ n at static s h. rw (convert_at (literal n at), kotlin_at (KExpr-F.Number n), value_at s.locals (literal n at)) refl;
+  paren = λ at e is static s h. rw (convert_at (TExpr-F.Paren at e), kotlin_at (KExpr-F.Paren (expression_of e)), value_at s.locals (TExpr-F.Paren at e)) (is static s h);
+  binary = λ a o at b known left right static s h.
+      rw (convert_at (TExpr-F.Binary a o at b), kotlin_at (KExpr-F.Binary (expression_of a) (operator_of o) (expression_of b)), value_at s.locals (TExpr-F.Binary a o at b), left static s h, right (past (expression_of a) static) s h)
+      (operates_as _ (operator_is_int (type_of (ke.Binary (expression_of a) (operator_of o) (expression_of b)) static)) (operator_of o) (value s.locals a) (value s.locals b) s);
 })
 
 -- ---- statements
@@ -204,16 +235,19 @@ printed_same p q v f g s plain h same =
     ∙ then_same Given' (prints v s) (λ a. f) (λ a. g) (prints_keeps v s h) (λ a t given. same t given)
     ∙ ap (λ (o : Outcome (Unit {0})). then_do o (λ a. g)) (sym (print_line_is q v s plain))
 
-pub text_same : (p q : Place) (body : List JStmt) (static : Static) (s : State) → LocalsGiven s.locals →
+pub text_same : (p q : Place) (body : List Statement) → are_taken body ≡ true → (static : Static) (s : State) → LocalsGiven s.locals →
     kotlin_stmts (map statement_of body) static p s ≡ sequence (map (java_stmt q) body) s
-text_same p q [] static s h = refl
-text_same p q (Local name e ∷ more) static s h =
-    rw (kotlin_expr_is p e static s h, java_expr_is q e s)
-    (text_same p q more (extended static (statement_of (Local name e))) (record s { locals = (name, value s.locals e) ∷ s.locals }) (more_given name (value s.locals e) s.locals (value_given s.locals h e) h))
-text_same p q (Print e ∷ more) static s h =
-    rw (kotlin_expr_is p e static s h, java_expr_is q e s)
-    (printed_same p q (value s.locals e) (kotlin_stmts (map statement_of more) static p) (sequence (map (java_stmt q) more)) s (value_given s.locals h e) h
-    (λ t given. text_same p q more static t given))
+text_same p q [] taken static s h = refl
+text_same p q (Declares name e ∷ more) taken static s h =
+    let parts = both_are (is_taken e) (are_taken more) taken in
+    rw (kotlin_expr_is p e parts.0 static s h, java_expr_is q e parts.0 s)
+    (text_same p q more parts.1 (extended static (statement_of (Declares name e))) (record s { locals = (name, value s.locals e) ∷ s.locals }) (more_given name (value s.locals e) s.locals (value_given s.locals h e parts.0) h))
+text_same p q (Prints e ∷ more) taken static s h =
+    let parts = both_are (is_taken e) (are_taken more) taken in
+    rw (kotlin_expr_is p e parts.0 static s h, java_expr_is q e parts.0 s)
+    (printed_same p q (value s.locals e) (kotlin_stmts (map statement_of more) static p) (sequence (map (java_stmt q) more)) s (value_given s.locals h e parts.0) h
+    (λ t given. text_same p q more parts.1 static t given))
+text_same p q (Untaken ∷ more) taken static s h = absurd (cc taken)
 
 -- ---- the steps of a text start no thread
 
@@ -255,10 +289,15 @@ printed_calm : (q : Place) (v : Value) (g : Meaning (Unit {0})) (s : State) → 
 printed_calm q v g s plain h calm =
     subst (λ (o : Outcome (Unit {0})). CalmOutcome (then_do o (λ a. g))) (sym (print_line_is q v s plain)) (then_calm Given' (prints v s) (λ a. g) (prints_calm v s) (prints_keeps v s h) (λ a t given. calm t given))
 
-text_calm : (q : Place) (body : List JStmt) (s : State) → LocalsGiven s.locals → CalmOutcome (sequence (map (java_stmt q) body) s)
-text_calm q [] s h = tt
-text_calm q (Local name e ∷ more) s h = rw (java_expr_is q e s) (text_calm q more (record s { locals = (name, value s.locals e) ∷ s.locals }) (more_given name (value s.locals e) s.locals (value_given s.locals h e) h))
-text_calm q (Print e ∷ more) s h = rw (java_expr_is q e s) (printed_calm q (value s.locals e) (sequence (map (java_stmt q) more)) s (value_given s.locals h e) h (λ t given. text_calm q more t given))
+text_calm : (q : Place) (body : List Statement) → are_taken body ≡ true → (s : State) → LocalsGiven s.locals → CalmOutcome (sequence (map (java_stmt q) body) s)
+text_calm q [] taken s h = tt
+text_calm q (Declares name e ∷ more) taken s h =
+    let parts = both_are (is_taken e) (are_taken more) taken in
+    rw (java_expr_is q e parts.0 s) (text_calm q more parts.1 (record s { locals = (name, value s.locals e) ∷ s.locals }) (more_given name (value s.locals e) s.locals (value_given s.locals h e parts.0) h))
+text_calm q (Prints e ∷ more) taken s h =
+    let parts = both_are (is_taken e) (are_taken more) taken in
+    rw (java_expr_is q e parts.0 s) (printed_calm q (value s.locals e) (sequence (map (java_stmt q) more)) s (value_given s.locals h e parts.0) h (λ t given. text_calm q more parts.1 t given))
+text_calm q (Untaken ∷ more) taken s h = absurd (cc taken)
 
 -- ---- bodies
 
@@ -266,7 +305,7 @@ if_same : {A : Type 0} (b : Bool) (k k' j j' : Meaning A) (s : State) → k s �
 if_same true k k' j j' s h g = h
 if_same false k k' j j' s h g = g
 
-module _ (class : Name) (parameter : Name) (body : List JStmt) (p q : Place) where
+module _ (class : Name) (parameter : Name) (body : List Statement) (taken : are_taken body ≡ true) (p q : Place) where
   abbrev kotlin_text : Meaning (Unit {0})
   kotlin_text = kotlin_stmts (map statement_of body) (main_static class parameter) p
 
@@ -276,8 +315,8 @@ module _ (class : Name) (parameter : Name) (body : List JStmt) (p q : Place) whe
   -- the text with the argument of `main` in its place
   entered_same : (vs : List Value) → AllGiven vs → (s : State) → LocalsGiven s.locals →
       then_do (assign_all (parameter ∷ []) vs s) (λ a. kotlin_text) ≡ then_do (assign_all (parameter ∷ []) vs s) (λ a. java_text)
-  entered_same [] given s h = text_same p q body (main_static class parameter) s h
-  entered_same (v ∷ vs) given s h = text_same p q body (main_static class parameter) (record s { locals = (parameter, v) ∷ s.locals }) (more_given parameter v s.locals given.0 h)
+  entered_same [] given s h = text_same p q body taken (main_static class parameter) s h
+  entered_same (v ∷ vs) given s h = text_same p q body taken (main_static class parameter) (record s { locals = (parameter, v) ∷ s.locals }) (more_given parameter v s.locals given.0 h)
 
   paid_same : (vs : List Value) → AllGiven vs → (s : State) → LocalsGiven s.locals → (n : ℕ) →
       then_do (pay_from s n) (λ a. assign_all (parameter ∷ []) vs >> kotlin_text) ≡ then_do (pay_from s n) (λ a. assign_all (parameter ∷ []) vs >> java_text)
@@ -285,26 +324,26 @@ module _ (class : Name) (parameter : Name) (body : List JStmt) (p q : Place) whe
   paid_same vs given s h (suc n) = entered_same vs given (record s { n = n }) h
 
   entered_calm : (vs : List Value) → AllGiven vs → (s : State) → LocalsGiven s.locals → CalmOutcome (then_do (assign_all (parameter ∷ []) vs s) (λ a. java_text))
-  entered_calm [] given s h = text_calm q body s h
-  entered_calm (v ∷ vs) given s h = text_calm q body (record s { locals = (parameter, v) ∷ s.locals }) (more_given parameter v s.locals given.0 h)
+  entered_calm [] given s h = text_calm q body taken s h
+  entered_calm (v ∷ vs) given s h = text_calm q body taken (record s { locals = (parameter, v) ∷ s.locals }) (more_given parameter v s.locals given.0 h)
 
   paid_calm : (vs : List Value) → AllGiven vs → (s : State) → LocalsGiven s.locals → (n : ℕ) → CalmOutcome (then_do (pay_from s n) (λ a. assign_all (parameter ∷ []) vs >> java_text))
   paid_calm vs given s h zero = tt
   paid_calm vs given s h (suc n) = entered_calm vs given (record s { n = n }) h
 
 -- the method of a class before others, whatever bodies they call
-entered_first : (kotlin java : Program) (b b' : Bodies) (class : Name) (main : Option JMain) (rest rest' : List Body) (site : Site) (vs : List Value) → AllGiven vs → (s : State) → LocalsGiven s.locals →
+entered_first : (kotlin java : Program) (b b' : Bodies) (class : Name) (main : Option MainMethod) → MainTaken main → (rest rest' : List Body) (site : Site) (vs : List Value) → AllGiven vs → (s : State) → LocalsGiven s.locals →
     enter kotlin b rest site vs s ≡ enter java b' rest' site vs s →
     enter kotlin b (cons_option (option_map (kotlin_main class) (option_map main_of main)) rest) site vs s ≡ enter java b' (cons_option (option_map (java_main class) main) rest') site vs s
-entered_first kotlin java b b' class None rest rest' site vs given s h same = same
-entered_first kotlin java b b' class (Some main) rest rest' site vs given s h same =
-    if_same (same_site (main_site class) site) _ _ _ _ s (paid_same class main.parameter main.body (place kotlin b (Simple class)) (place java b' (Simple class)) vs given s h s.n) same
+entered_first kotlin java b b' class None taken rest rest' site vs given s h same = same
+entered_first kotlin java b b' class (Some main) taken rest rest' site vs given s h same =
+    if_same (same_site (main_site class) site) _ _ _ _ s (paid_same class main.parameter main.body taken (place kotlin b (Simple class)) (place java b' (Simple class)) vs given s h s.n) same
 
 -- the same methods of a list of classes
-entered_among : (kotlin java : Program) (b b' : Bodies) (list : List JClass) (site : Site) (vs : List Value) → AllGiven vs → (s : State) → LocalsGiven s.locals →
+entered_among : (kotlin java : Program) (b b' : Bodies) (list : List MainClass) → ClassesTaken list → (site : Site) (vs : List Value) → AllGiven vs → (s : State) → LocalsGiven s.locals →
     enter kotlin b (filter_map kotlin_method (classes_of list)) site vs s ≡ enter java b' (filter_map java_method list) site vs s
-entered_among kotlin java b b' [] site vs given s h = refl
-entered_among kotlin java b b' (class ∷ list) site vs given s h = entered_first kotlin java b b' class.name class.main _ _ site vs given s h (entered_among kotlin java b b' list site vs given s h)
+entered_among kotlin java b b' [] taken site vs given s h = refl
+entered_among kotlin java b b' (class ∷ list) taken site vs given s h = entered_first kotlin java b b' class.name class.main taken.0 _ _ site vs given s h (entered_among kotlin java b b' list taken.1 site vs given s h)
 
 -- ---- a body that is there
 
@@ -317,17 +356,17 @@ if_calm : {A : Type 0} (b c : Bool) (m k : Meaning A) (s : State) → (if b then
 if_calm true c m k s is h g = h
 if_calm false c m k s is h g = g is
 
-first_calm : (java : Program) (b : Bodies) (class : Name) (main : Option JMain) (rest : List Body) (site : Site) (vs : List Value) → AllGiven vs → (s : State) → LocalsGiven s.locals →
+first_calm : (java : Program) (b : Bodies) (class : Name) (main : Option MainMethod) → MainTaken main → (rest : List Body) (site : Site) (vs : List Value) → AllGiven vs → (s : State) → LocalsGiven s.locals →
     stands (cons_option (option_map (java_main class) main) rest) site ≡ true → (stands rest site ≡ true → CalmOutcome (enter java b rest site vs s)) →
     CalmOutcome (enter java b (cons_option (option_map (java_main class) main) rest) site vs s)
-first_calm java b class None rest site vs given s h there calm = calm there
-first_calm java b class (Some main) rest site vs given s h there calm =
-    if_calm (same_site (main_site class) site) (stands rest site) _ _ s there (paid_calm class main.parameter main.body (place java b (Simple class)) (place java b (Simple class)) vs given s h s.n) calm
+first_calm java b class None taken rest site vs given s h there calm = calm there
+first_calm java b class (Some main) taken rest site vs given s h there calm =
+    if_calm (same_site (main_site class) site) (stands rest site) _ _ s there (paid_calm class main.parameter main.body taken (place java b (Simple class)) (place java b (Simple class)) vs given s h s.n) calm
 
-calm_among : (java : Program) (b : Bodies) (list : List JClass) (site : Site) (vs : List Value) → AllGiven vs → (s : State) → LocalsGiven s.locals →
+calm_among : (java : Program) (b : Bodies) (list : List MainClass) → ClassesTaken list → (site : Site) (vs : List Value) → AllGiven vs → (s : State) → LocalsGiven s.locals →
     stands (filter_map java_method list) site ≡ true → CalmOutcome (enter java b (filter_map java_method list) site vs s)
-calm_among java b [] site vs given s h there = cc
-calm_among java b (class ∷ list) site vs given s h there = first_calm java b class.name class.main _ site vs given s h there (calm_among java b list site vs given s h)
+calm_among java b [] taken site vs given s h there = cc
+calm_among java b (class ∷ list) taken site vs given s h there = first_calm java b class.name class.main taken.0 _ site vs given s h there (calm_among java b list taken.1 site vs given s h)
 
 -- ---- threads
 
@@ -356,7 +395,7 @@ turn_calm (Jumps (Exits e) s) h = at_end_calm s.answers _ refl
 turn_calm (Jumps (Returns v) s) h = at_end_calm s.answers _ refl
 turn_calm (Jumps (Throws v) s) h = at_end_calm s.answers _ refl
 
-module _ (classes : List JClass) where
+module _ (classes : List MainClass) where
   abbrev kotlin : Program
   kotlin = kotlin_program (classes_of classes)
 
@@ -368,24 +407,25 @@ module _ (classes : List JClass) where
   IsGiven (Enters site vs) = (stands (filter_map java_method classes) site ≡ true) × AllGiven vs
   IsGiven (Runs v) = ⊥
 
-  method_same : (d : ℕ) (site : Site) (vs : List Value) → AllGiven vs → (s : State) → LocalsGiven s.locals → (bodies kotlin d).method site vs s ≡ (bodies java d).method site vs s
+module _ (classes : List MainClass) (taken : ClassesTaken classes) where
+  method_same : (d : ℕ) (site : Site) (vs : List Value) → AllGiven vs → (s : State) → LocalsGiven s.locals → (bodies (kotlin classes) d).method site vs s ≡ (bodies (java classes) d).method site vs s
   method_same zero site vs given s h = refl
-  method_same (suc d) site vs given s h = entered_among kotlin java (bodies kotlin d) (bodies java d) classes site vs given s h
+  method_same (suc d) site vs given s h = entered_among (kotlin classes) (java classes) (bodies (kotlin classes) d) (bodies (java classes) d) classes taken site vs given s h
 
-  method_calm : (d : ℕ) (site : Site) (vs : List Value) → AllGiven vs → stands (filter_map java_method classes) site ≡ true → (s : State) → LocalsGiven s.locals → CalmOutcome ((bodies java d).method site vs s)
+  method_calm : (d : ℕ) (site : Site) (vs : List Value) → AllGiven vs → stands (filter_map java_method classes) site ≡ true → (s : State) → LocalsGiven s.locals → CalmOutcome ((bodies (java classes) d).method site vs s)
   method_calm zero site vs given there s h = tt
-  method_calm (suc d) site vs given there s h = calm_among java (bodies java d) classes site vs given s h there
+  method_calm (suc d) site vs given there s h = calm_among (java classes) (bodies (java classes) d) classes taken site vs given s h there
 
-  from_same : (d : ℕ) (start : Start) → IsGiven start → (s : State) → thread_from kotlin (bodies kotlin d) start s ≡ thread_from java (bodies java d) start s
+  from_same : (d : ℕ) (start : Start) → IsGiven classes start → (s : State) → thread_from (kotlin classes) (bodies (kotlin classes) d) start s ≡ thread_from (java classes) (bodies (java classes) d) start s
   from_same d (Enters site vs) given s = ap (returned s.locals) (method_same d site vs given.1 (record s { locals = [] }) none_given)
   from_same d (Runs object) given s = absurd given
 
-  from_calm : (d : ℕ) (start : Start) → IsGiven start → (s : State) → CalmOutcome (thread_from java (bodies java d) start s)
+  from_calm : (d : ℕ) (start : Start) → IsGiven classes start → (s : State) → CalmOutcome (thread_from (java classes) (bodies (java classes) d) start s)
   from_calm d (Enters site vs) given s = returned_calm s _ (method_calm d site vs given.1 given.0 (record s { locals = [] }) none_given)
   from_calm d (Runs object) given s = absurd given
 
-  pub thread_same : (start : Start) → IsGiven start → (answers : List Answer) (n : ℕ) → KotlinThread (classes_of classes) start answers n ≡ JavaThread classes start answers n
+  pub thread_same : (start : Start) → IsGiven classes start → (answers : List Answer) (n : ℕ) → KotlinThread (classes_of classes) start answers n ≡ JavaThread classes start answers n
   thread_same start given answers n = ap turn (from_same (n + length answers) start given (record { locals = []; answers = answers; n = n }))
 
-  pub thread_calm : (start : Start) → IsGiven start → (answers : List Answer) (n : ℕ) → CalmTurn (JavaThread classes start answers n)
+  pub thread_calm : (start : Start) → IsGiven classes start → (answers : List Answer) (n : ℕ) → CalmTurn (JavaThread classes start answers n)
   thread_calm start given answers n = turn_calm _ (from_calm (n + length answers) start given (record { locals = []; answers = answers; n = n }))

@@ -15,17 +15,17 @@ use Rattle.meanings.specs.Objects.{this_name, self, make, Nothing, Super, constr
 -- ---- programs
 
 -- an object of a class, which captured nothing
-abbrev object : String → ℕ → Value
+abbrev pub object : String → ℕ → Value
 object class k = Object (Simple (codes class)) k NoMore
 
-abbrev int : ℕ → Value
+abbrev pub int : ℕ → Value
 int n = Integer Int (pos n)
 
-abbrev main : Site
+abbrev pub main : Site
 main = main_site (codes "Main")
 
 -- `main`, the constructors and other methods, the lambda's text, and how calls are resolved
-abbrev program : (Place → Meaning (Unit {0})) → List Body → List Body → List Body → (Site → Value → Callee) → Program
+abbrev pub program : (Place → Meaning (Unit {0})) → List Body → List Body → List Body → (Site → Value → Callee) → Program
 program text methods constructors lambdas resolves = record {
   methods = record { site = main; parameters = []; text = text } ∷ methods;
   constructors = constructors;
@@ -40,12 +40,12 @@ program text methods constructors lambdas resolves = record {
 }
 
 -- the next step of a `main` after these answers
-abbrev after : (Place → Meaning (Unit {0})) → List Answer → Turn
+abbrev pub after : (Place → Meaning (Unit {0})) → List Answer → Turn
 after text answers = thread (program text [] [] [] plain_callee) (Enters main []) answers 9
 
 -- ---- fields, statics and elements
 
-abbrev field : Field
+abbrev pub field : Field
 field = record { class = Simple (codes "A"); name = codes "f" }
 
 -- what was stored is read
@@ -92,10 +92,10 @@ null_element = refl
 
 -- ---- construction, the superclass's first
 
-abbrev constructor : String → Site
+abbrev pub constructor : String → Site
 constructor class = record { class = Simple (codes class); is_static = false; ordinal = 0 }
 
-abbrev own_field : String → Field
+abbrev pub own_field : String → Field
 own_field class = record { class = Simple (codes class); name = codes "x" }
 
 -- class A { int x = 7; } class B extends A { int x = 8; } with `new B()`
@@ -170,16 +170,16 @@ no_body = refl
 
 -- ---- loops
 
-abbrev i : Name
+abbrev pub i : Name
 i = codes "i"
 
-abbrev below : ℕ → Meaning Value
+abbrev pub below : ℕ → Meaning Value
 below n = local i >>= (λ x. arithmetic Lt Int Int x (int n))
 
-abbrev next : Meaning (Unit {0})
+abbrev pub next : Meaning (Unit {0})
 next = local i >>= (λ x. arithmetic Add Int Int x (int 1)) >>= assign i
 
-abbrev prints : Place → Meaning (Unit {0})
+abbrev pub prints : Place → Meaning (Unit {0})
 prints p = local i >>= print_line p
 
 -- `for (i = 0; i < 2; i++)` as a `while`
@@ -236,7 +236,7 @@ put_back_behind_the_range = refl
 
 -- ---- jumps and exceptions
 
-abbrev one : Place → Meaning (Unit {0})
+abbrev pub one : Place → Meaning (Unit {0})
 one p = print_line p (int 1)
 
 abbrev leaves : Jump → Meaning (Unit {0})

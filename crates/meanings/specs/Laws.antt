@@ -1,6 +1,7 @@
 -- What holds of every program, world and run.
 use Rattle.std.specs.Prelude.{◌≡◌, ◌↔◌, ℕ, zero, suc, ◌+◌, ◌≤◌, Bool, true, false, List, [], ◌∷◌, ◌++◌, length, Some, slice_get, if◌then◌else◌, ◌==◌}
-use Rattle.meanings.specs.declared.java.JFile.{JFile}
+use Rattle.java_typed.specs.declared.units.TUnit.{TUnit}
+use Rattle.meanings.specs.Taken.{is_taken_unit, AllTaken}
 use Rattle.meanings.specs.Values.{ClassName, same_class, Field, Value, same_value, Step, Touch, InitEnd, Alloc, Put, PutStatic, PutElem, Enter, Exit, Print, ReadByte, Lib, Raise, Start as StartStep, End, Answer}
 use Rattle.meanings.specs.Convert.{file_of, files_of}
 use Rattle.meanings.specs.JTyped.{JTyped}
@@ -18,13 +19,13 @@ SameIsEqual = (v w : Value) → (same_value v w ≡ true) ↔ (v ≡ w)
 
 -- ---- typing
 
--- the Kotlin of well typed files is well typed
+-- the Kotlin of well typed units that are taken is well typed
 abbrev pub TypesAreKept : Type 0
-TypesAreKept = (files : List JFile) → JTyped files → KTyped (files_of files)
+TypesAreKept = (units : List TUnit) → AllTaken units → JTyped units → KTyped (files_of units)
 
--- the canonical text of the Kotlin of a file spells it
+-- the canonical text of the Kotlin of a unit that is taken spells it
 abbrev pub SpellingIsKept : Type 0
-SpellingIsKept = (file : JFile) → JNamed file → KSpells (file_of file) (KText (file_of file))
+SpellingIsKept = (unit : TUnit) → is_taken_unit unit ≡ true → JNamed unit → KSpells (file_of unit) (KText (file_of unit))
 
 -- ---- threads
 

@@ -12,6 +12,7 @@ pub mod Objects
 pub mod Same
 pub mod World
 pub mod Runs
+pub mod Taken
 pub mod Java
 pub mod Static
 pub mod Kotlin

@@ -1,9 +1,9 @@
 // Laws of the meanings: each is the contract of a function that does nothing.
 ghost use Rattle.std.specs.Prelude.{List};
-ghost use Rattle.meanings.specs.declared.java.JClass.{JClass};
-ghost use Rattle.meanings.specs.declared.java.JFile.{JFile};
+ghost use Rattle.java_typed.specs.declared.units.TUnit.{TUnit};
 ghost use Rattle.meanings.specs.declared.kotlin.KClass.{KClass};
 ghost use Rattle.meanings.specs.Values.{Name};
+ghost use Rattle.meanings.specs.Taken.{MainClass, AllTaken, PrintlnPrints};
 ghost use Rattle.meanings.specs.Convert.{files_of};
 ghost use Rattle.meanings.specs.Java.{java_program};
 ghost use Rattle.meanings.specs.Kotlin.{kotlin_program};
@@ -15,19 +15,19 @@ ghost use Rattle.meanings.specs.Safety.{NeverTornWhereTyped};
 ghost use Rattle.meanings.specs.Laws.{SameIsEqual, SameAtEveryDepth, EqualRuns, MatchingRuns, OnlyStepsChange, ThreadsAgree, OneAnswer, ChangesOnlyWhatItSays, RunsGrow, SpellingIsKept, TypesAreKept};
 ghost use Rattle.meanings.specs.KSpells.{SpellsOne};
 
-/// The Kotlin of a project makes exactly the steps of the project, in every run, and Torn never comes.
+/// The Kotlin of a project whose units are taken makes exactly the steps of the project, in every run, and Torn never comes.
 pub fn same_steps()
-    ensures { (files : List JFile) (configured : List Name) → SameSteps files configured (files_of files) }
+    ensures { (units : List TUnit) (configured : List Name) → AllTaken units → SameSteps units configured (files_of units) }
 {}
 
 /// Each entry point is found in both programs, and its thread begins with its text.
 pub fn entries_are_entered()
-    ensures { (files : List JFile) (configured : List Name) → EntriesAreEntered files configured (files_of files) }
+    ensures { (units : List TUnit) (configured : List Name) → EntriesAreEntered units configured (files_of units) }
 {}
 
 /// A thread is the same with every larger depth, in both languages.
 pub fn same_at_every_depth()
-    ensures java { (classes : List JClass) → SameAtEveryDepth (java_program classes) }
+    ensures java { (classes : List MainClass) → SameAtEveryDepth (java_program classes) }
     ensures kotlin { (classes : List KClass) → SameAtEveryDepth (kotlin_program classes) }
 {}
 
@@ -87,7 +87,7 @@ pub fn same_is_equal()
     ensures { SameIsEqual }
 {}
 
-/// The Kotlin of well typed files is well typed.
+/// The Kotlin of well typed units that are taken is well typed.
 pub fn types_are_kept()
     ensures { TypesAreKept }
 {}
@@ -97,7 +97,12 @@ pub fn spells_one()
     ensures { SpellsOne }
 {}
 
-/// The canonical text of the Kotlin of a file spells it.
+/// The canonical text of the Kotlin of a unit that is taken spells it.
 pub fn spelling_is_kept()
     ensures { SpellingIsKept }
+{}
+
+/// The row of the library that is taken for `println` prints an int and ends the line.
+pub fn println_prints()
+    ensures { PrintlnPrints }
 {}

@@ -1,7 +1,6 @@
 //! The trees of both languages, how they are spelled, and what they mean.
 #![tactic(auto)]
 
-pub mod java;
 pub mod kotlin;
 pub mod laws;
 pub mod names;
