@@ -1,7 +1,7 @@
 #!/usr/bin/env python3
 """Writes what the actions of the Kotlin grammar build: `python3 bench/kotlin_grammar/actions.py` at the top of the repository.
 
-The definitions (kotlin_grammar/specs/Build) and the code (kotlin_parts, kotlin_*_actions) come from one table here, line for line;
+The definitions (kotlin_grammar/specs/Build) and the code (kotlin_actions) come from one table here, line for line;
 the proof compares the two.
 """
 import os
@@ -369,7 +369,16 @@ def spec_term(text, names):
     return text
 
 
-LETTER = {'Variable': 1}
+COPIED = {'place', 'brackets', 'head', 'class_word', 'setter'}
+
+
+def no(held, answer='Ok(false)'):
+    # what is owned is let go by calls
+    if not held:
+        return f'return {answer}'
+    return '{\n' + ''.join(f'            let_go({h});\n' for h in held) + f'            return {answer};\n        }}'
+
+
 asks_spec = {'literal_of': 't.0.kind', 'postfix_of': 't.0.kind', 'prefix_of': 't.0.kind', 'binary_of': 't.0.kind', 'chain': 'x.0', 'variability_of': 't.0.kind',
              'modifier_of': 't.0.kind', 'annotation_of': 't', 'class_word_of': 't.0.kind', 'fun_class_word_of': 'fun_at t', 'called_of': 't.0.kind'}
 an = '-- What each action builds of the last parts.\n'
@@ -417,18 +426,29 @@ for a in T.ACTS:
     # code
     needs = any(p in ALLOC for p, _ in pushes) or any('alloc' in (v[2][1] if v[0] == '+' else v[1]) for _, v in pushes) or any('chain' in q for q in asks)
     c = ''
+    held = []
     for p, n in pops:
         special = any(v[0] == '+' and v[1] == n for _, v in pushes) or (n == 'q' and a == 'AddDotted') or (n == 'xs' and a in ('AddName', 'AddNameComma'))
         mut = 'mut ' if special else ''
-        c += f'    let {mut}{n} = match pop_{p}(built) {{\n        Some({n}) => {n},\n        None => return Ok(false),\n    }};\n'
+        c += f'    let {mut}{n} = match pop_{p}(built) {{\n        Some({n}) => {n},\n        None => {no(held)},\n    }};\n'
+        if p not in COPIED:
+            held.append(n)
         if p == 'token' and any('t.position' in str(v) for _, v in pushes):
             c += '    let at = t.position;\n'
         for w in ask_by.get(n, []):
             target = ('mut ' if w[0] == 'q' else '') + w[0]
             call = {'chain': f'chain(alloc, {n}.get())?', 'fun_class_word_of': f'fun_class_word_of(fun_at, {n})'}.get(w[1], f'{w[1]}({n})')
-            c += f'    let {target} = match {call} {{\n        Some({w[0]}) => {w[0]},\n        None => return Ok(false),\n    }};\n'
+            if w[1] != 'chain' and n in held:
+                held.remove(n)
+            if w[1] == 'chain':
+                c += f'    let found = match chain(alloc, {n}.get()) {{\n        Ok(found) => found,\n        Err(error) => {no(held, "Err(error)")},\n    }};\n    let_go({n});\n'
+                held.remove(n)
+                call = 'found'
+            c += f'    let {target} = match {call} {{\n        Some({w[0]}) => {w[0]},\n        None => {no(held)},\n    }};\n'
+            if w[0] in ('literal', 'q', 'name'):
+                held.append(w[0])
     if guard:
-        c += '    if !is_target(x.get()) {\n        return Ok(false);\n    }\n'
+        c += '    if !is_target(x.get()) {\n' + ''.join(f'        let_go({h});\n' for h in held) + '        return Ok(false);\n    }\n'
     for p, v in pushes:
         g = 'alloc, ' if p in ALLOC else ''
         if v[0] == '+':
@@ -536,7 +556,7 @@ pub struct Levels {
 """)
 
 # ---- the code of the parts
-rs = '// The last part of each type, and one more.\n\nghost use Rattle.std.specs.Prelude.{OnOk, ◌≡◌};\nghost use Rattle.kotlin_grammar.specs.Parts as b;\nghost use Rattle.kotlin_parts.specs.Popping.{Pops};\n\nuse kotlin_grammar::{Built, ClassHead};\nuse kotlin_tree::{Brackets, KHeadAt, '
+rs = '// The last part of each type, and one more.\n\nghost use Rattle.std.specs.Prelude.{OnOk, ◌≡◌};\nghost use Rattle.kotlin_grammar.specs.Parts as b;\nghost use Rattle.kotlin_actions.specs.Popping.{Pops};\n\nuse kotlin_grammar::{Built, ClassHead};\nuse kotlin_tree::{Brackets, KHeadAt, '
 rs += ', '.join(sorted(set(types) | {'KExpr', 'KStmt', 'KMember'})) + '};\nuse sqlite_items::{Boxed, Items};\nuse std::alloc::{AllocError, Global};\n\n'
 for p, (f, sp, co) in PARTS.items():
     rs += f'#[tactic(auto, unfolding(kotlin_grammar::specs::Parts::last_{p}))]\npub fn pop_{p}(built: &mut Built) -> Option<{co}>\n    ensures {{ Pops b.last_{p} built.old built.new result }}\n{{\n    built.{f}.pop()\n}}\n\n'
@@ -544,7 +564,10 @@ for p, (f, sp, co) in PARTS.items():
         rs += f'#[tactic(auto, unfolding(kotlin_grammar::specs::Parts::with_{p}))]\npub fn push_{p}(alloc: Global, built: &mut Built, part: {sp}) -> Result<(), AllocError>\n    ensures {{ OnOk result (built.new ≡ b.with_{p} part built.old) }}\n{{\n    built.{f}.push(Boxed::new(alloc, part)?)\n}}\n\n'
     else:
         rs += f'#[tactic(auto, unfolding(kotlin_grammar::specs::Parts::with_{p}))]\npub fn push_{p}(built: &mut Built, part: {co}) -> Result<(), AllocError>\n    ensures {{ OnOk result (built.new ≡ b.with_{p} part built.old) }}\n{{\n    built.{f}.push(part)\n}}\n\n'
-rs += '''/// An opening and a closing bracket.
+rs += '''/// Lets go of a part, by a call.
+pub fn let_go<T: Drop>(_part: T) {}
+
+/// An opening and a closing bracket.
 pub fn pop_brackets(built: &mut Built) -> Option<Brackets>
     ensures { Pops b.last_brackets built.old built.new result }
 {
@@ -562,24 +585,25 @@ pub fn pop_head(built: &mut Built) -> Option<KHeadAt>
     Some(KHeadAt { word, round })
 }
 '''
-put('kotlin_parts', 'src/stacks.rt', rs)
-for crate, name, doc in (('e', 'kotlin_expression_actions', 'names, types and expressions'), ('s', 'kotlin_statement_actions', 'statements and blocks'), ('m', 'kotlin_member_actions', 'members, classes and files')):
+put('kotlin_actions', 'src/stacks.rt', rs)
+for crate, name, doc in (('e', 'expressions', 'names, types and expressions'), ('s', 'statements', 'statements and blocks'), ('m', 'members', 'members, classes and files')):
     body = ''.join(code[a][3] for a in T.ACTS if code[a][0] == crate)
     pops = sorted(set(re.findall(r'\b(?:pop|push)_\w+', body)))
     helpers = sorted(set(h for h in ('asked', 'literal_of', 'postfix_of', 'prefix_of', 'binary_of', 'chain', 'is_target', 'variability_of', 'modifier_of', 'annotation_of', 'class_word_of', 'fun_class_word_of', 'called_of') if re.search(r'\b' + h + r'\(', body)))
     trees = sorted(n for n in HOME if re.search(r'\b' + n + r' \{|\b' + n + '::', body))
-    rs = f'//! What is built of the parts of {doc}.\n#![tactic(auto)]\n\nghost use Rattle.std.specs.Prelude.{{IfOk}};\nghost use Rattle.kotlin_grammar.specs.declared.letters.Act.TheVariants as a;\nghost use Rattle.kotlin_parts.specs.Popping.{{Builds}};\n\nuse j2k_base::NoMemory;\nuse kotlin_grammar::{{Built{", ClassHead" if "ClassHead {" in body else ""}}};\nuse kotlin_parts::{{' + ', '.join(pops + helpers) + '};\nuse kotlin_tree::{' + ', '.join(trees) + '};\n'
+    rs = f'// What is built of the parts of {doc}.\n\nghost use Rattle.std.specs.Prelude.{{IfOk}};\nghost use Rattle.kotlin_grammar.specs.declared.letters.Act.TheVariants as a;\nghost use Rattle.kotlin_actions.specs.Popping.{{Builds}};\n\nuse crate::meanings::{{' + ', '.join(helpers) + '};\nuse crate::stacks::{' + ', '.join(['let_go'] + pops) + f'}};\nuse j2k_base::NoMemory;\nuse kotlin_grammar::{{Built{", ClassHead" if "ClassHead {" in body else ""}}};\nuse kotlin_tree::{{' + ', '.join(trees) + '};\n'
     rs += 'use sqlite_items::Items;\n' if 'Items::' in body else ''
     rs += 'use std::alloc::Global;\n\n' + body.rstrip('\n') + '\n'
-    put(name, 'src/lib.rt', rs)
-rs = ''
-for crate, name in (('e', 'kotlin_expression_actions'), ('s', 'kotlin_statement_actions'), ('m', 'kotlin_member_actions')):
-    rs += f'use {name}::{{' + ', '.join(code[a][1] for a in T.ACTS if code[a][0] == crate) + '};\n'
-rs += '\n/// Builds, and answers whether the parts are those that the action wants.\n#[tactic(auto, unfolding(kotlin_grammar::specs::Build::build))]\nfn build(alloc: Global, act: Act, built: &mut Built) -> Result<bool, NoMemory>\n    ensures { IfOk result (Builds act built.old built.new) }\n{\n    match act {\n'
+    put('kotlin_actions', f'src/{name}.rt', rs)
+rs = '// What an action builds.\n\nghost use Rattle.std.specs.Prelude.{IfOk};\nghost use Rattle.kotlin_actions.specs.Popping.{Builds};\n\n'
+for crate, name in (('e', 'expressions'), ('m', 'members'), ('s', 'statements')):
+    rs += f'use crate::{name}::{{' + ', '.join(code[a][1] for a in T.ACTS if code[a][0] == crate) + '};\n'
+rs += 'use j2k_base::NoMemory;\nuse kotlin_grammar::{Act, Built};\nuse std::alloc::Global;\n'
+rs += '\n/// Builds, and answers whether the parts are those that the action wants. Where they aren\'t, what is left is of no use.\n#[tactic(auto, unfolding(kotlin_grammar::specs::Build::build))]\npub fn build(alloc: Global, act: Act, built: &mut Built) -> Result<bool, NoMemory>\n    ensures { IfOk result (Builds act built.old built.new) }\n{\n    match act {\n'
 for a in T.ACTS:
     rs += f'        Act::{a} => {code[a][1]}({"alloc, " if code[a][2] else ""}built),\n'
 rs += '    }\n}\n'
-dispatch = rs
+put('kotlin_actions', 'src/building.rt', rs)
 rs = '/// How deep what the action builds is.\n#[tactic(auto, unfolding(kotlin_grammar::specs::Depth::levels))]\nfn levels(act: Act) -> Levels\n    ensures { result ≡ levels_of act }\n{\n    match act {\n'
 for a in T.ACTS:
     if a in LEVELS:
@@ -587,7 +611,7 @@ for a in T.ACTS:
 rs += '        _ => levels_by(Parts::Zero, Parts::Zero, Level::Gone),\n    }\n}\n'
 levels_code = rs
 
-rs = "// What an action does.\n\nghost use Rattle.std.specs.Prelude.{◌≡◌, IfOk};\nghost use Rattle.kotlin_grammar.specs.Depth.{levels as levels_of};\nghost use Rattle.kotlin_parts.specs.Popping.{Builds};\nghost use Rattle.kotlin_machine.specs.Steps.{Acts};\n\nuse crate::depths::{levels_by, measure};\nuse j2k_base::NoMemory;\nuse kotlin_grammar::{Act, Built, Level, Levels, Parts};\n" + dispatch.replace('\n/// Builds', 'use std::alloc::Global;\n\n/// Builds', 1) + "\n" + levels_code + """
+rs = "// What an action does.\n\nghost use Rattle.std.specs.Prelude.{◌≡◌, IfOk};\nghost use Rattle.kotlin_grammar.specs.Depth.{levels as levels_of};\nghost use Rattle.kotlin_machine.specs.Steps.{Acts};\n\nuse crate::depths::{levels_by, measure};\nuse j2k_base::NoMemory;\nuse kotlin_actions::build;\nuse kotlin_grammar::{Act, Built, Level, Levels, Parts};\nuse std::alloc::Global;\n\n" + levels_code + """
 /// Measures and builds, and answers whether the action may.
 #[tactic(auto, unfolding(kotlin_grammar::specs::Depth::acts))]
 pub fn act(alloc: Global, act: Act, built: &mut Built) -> Result<bool, NoMemory>
