@@ -33,7 +33,7 @@ use Rattle.java_unit_grammar.specs.declared.units.JUnit.{JUnit}
 use Rattle.java_unit_grammar.specs.Standing.{Role, Owner, owner_of, Node, NodeStands, all_stand, block_stands, member_block, statement_stands, top_stands, file_stands, steps, TopStands, FileStands, UnitSpells}
 use Rattle.java_typed.specs.declared.types.ClassRef.TheVariants.{Library}
 use Rattle.java_typed.specs.declared.types.TResult.TheVariants as answer
-use Rattle.java_typed.specs.declared.types.TType.{TType, out-TType, out-roll-TType}
+use Rattle.java_typed.specs.declared.types.TType.{out-roll-TType}
 use Rattle.java_typed.specs.declared.types.TType.TheOpen.{TType-F}
 use Rattle.java_typed.specs.declared.types.TType.TheVariants as ty
 use Rattle.java_typed.specs.declared.exprs.TExpr.{TExpr, out-TExpr, out-roll-TExpr}
@@ -41,8 +41,6 @@ use Rattle.java_typed.specs.declared.exprs.TExpr.TheOpen.{TExpr-F}
 use Rattle.java_typed.specs.declared.exprs.TExpr.TheVariants as t
 use Rattle.java_typed.specs.declared.statements.TBody.{TBody}
 use Rattle.java_typed.specs.declared.statements.TBody.TheOpen.{TStatement-F}
-use Rattle.java_typed.specs.declared.statements.TCaseGroup.{TCaseGroup}
-use Rattle.java_typed.specs.declared.statements.TCatch.{TCatch}
 use Rattle.java_typed.specs.declared.statements.TSimple.{TSimple}
 use Rattle.java_typed.specs.declared.statements.TStatement.{TStatement, out-TStatement, out-roll-TStatement}
 use Rattle.java_typed.specs.declared.statements.TStatement.TheVariants as made
@@ -65,8 +63,8 @@ use Rattle.java_lib.specs.Classes.{class_simple}
 use Rattle.java_taken.specs.Judged.{Judged, ◌>>=◌}
 use Rattle.java_taken.specs.Names.{is_plain, is_reserved, is_free, contains_name}
 use Rattle.java_taken.specs.Places.{statement_at, member_at}
-use Rattle.java_taken.specs.Expressions.{int_type, expression}
-use Rattle.java_taken.specs.Statements.{may_declare, is_out, is_int, printed, called, int_written, declares, println, prints, valued, declared, simple_of, statement_of, declared_by, with_declared, names_after, statement, statements}
+use Rattle.java_taken.specs.Expressions.{expression}
+use Rattle.java_taken.specs.Statements.{may_declare, is_out, is_int, printed, called, declares, println, prints, valued, declared, simple_of, statement_of, declared_by, with_declared, names_after, statement, statements}
 use Rattle.java_taken.specs.Units as u
 use Rattle.java_taken.proofs.Typing.{typed_is, bind_typed, if_typed, both, identifier, SameLocals, ArePlain, int_is, typed_expression}
 
