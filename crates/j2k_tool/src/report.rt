@@ -1,13 +1,14 @@
 // The choices of a conversion, and the report on them.
 ghost use Rattle.std.specs.Prelude.{◌≡◌, ◌++◌, IfOk, OnOk};
-ghost use Rattle.std.specs.List.{flat_map};
+ghost use Rattle.std.specs.List.{flat_map, list_any};
+ghost use Rattle.java_typed.specs.declared.units.TMethod.{TMethod};
 ghost use Rattle.j2k_tool.specs.Report.{kind_text as kind_text_by, choice_text, choice_line, companion, companions, has_class as has_class_by, ReportText, Choices as choices_by};
 
 use crate::files::TakenFile;
 use j2k_base::{Choice, ChoiceKind, Choices, Name, NoMemory, Place, Text};
 use j2k_faults::{push_number, push_place};
 use java_tree::Position;
-use java_typed::TClass;
+use java_typed::{TClass, TMethod};
 use std::alloc::Global;
 
 fn kind_text(kind: ChoiceKind) -> &'static str
@@ -52,15 +53,18 @@ fn push_companion(
 ) -> Result<(), NoMemory>
     ensures { OnOk result (choices.new ≡ choices.old ++ companions path.now class.now) }
 {
-    if !class
-        .methods
-        .as_slice()
-        .iter()
-        .any(|method| method.modifiers.is_static)
-    {
-        return Ok(());
+    if has_static(class.methods.as_slice()) {
+        choices.push(companion_of(alloc, path, class.at, &class.name)?)
+    } else {
+        Ok(())
     }
-    choices.push(companion_of(alloc, path, class.at, &class.name)?)
+}
+
+/// Whether a method is static.
+fn has_static(methods: &[TMethod]) -> bool
+    ensures { result ≡ list_any (λ (m : TMethod). m.modifiers.is_static) methods.now }
+{
+    methods.iter().any(|method| method.modifiers.is_static)
 }
 
 fn companion_of(alloc: Global, path: &Text, at: Position, name: &Name) -> Result<Choice, NoMemory>
