@@ -1,0 +1,8 @@
+use Rattle.std.proofs.Common.{◌≡◌, ◌++◌, ◌*◌, map, take}
+use Rattle.kotlin_layout.specs.Layout.{laid}
+use Rattle.kotlin_layout.specs.Shown.{if_ranked}
+use Rattle.kotlin_layout.specs.Roles.{joined}
+use Rattle.kotlin_print.proofs.members.ranked.Given as goal
+
+abbrev pub invariant-loop-x : goal.invariant-loop-x
+invariant-loop-x l = l.p ≡ laid (joined (map (if_ranked l.wanted) (take l.x-index l.list))) l.fn.p
