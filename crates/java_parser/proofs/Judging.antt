@@ -10,7 +10,7 @@ use Rattle.java_tree.specs.Seen.{Tokens, token_seen, seen}
 use Rattle.java_brackets.specs.declared.flaws.Flaw.{Flaw}
 use Rattle.java_brackets.specs.declared.flaws.Flaw.TheVariants as w
 use Rattle.java_brackets.specs.declared.stack.Bracket.TheVariants as b
-use Rattle.java_brackets.specs.Brackets.{IsBracket, IsOpening, bracket_of, bracket_at, IsFlawed, IsFirst}
+use Rattle.java_brackets.specs.Brackets.{IsBracket, IsOpening, bracket_of, bracket_at, IsFlawed}
 use Rattle.java_brackets.proofs.LawsToCite.{one_first}
 use Rattle.java_member_grammar.specs.declared.lines.JPackage.{JPackage}
 use Rattle.java_member_grammar.specs.declared.lines.JImport.{JImport}
@@ -29,7 +29,7 @@ use Rattle.java_parser.specs.declared.faults.SyntaxFault.{SyntaxFault}
 use Rattle.java_parser.specs.declared.faults.SyntaxFault.TheVariants as f
 use Rattle.java_parser.specs.declared.parsing.Judged.{Judged}
 use Rattle.java_parser.specs.declared.parsing.Judged.TheVariants as j
-use Rattle.java_parser.specs.Spelling.{HasNoFlaw, JSpells, IsFaulty, fault_in, of_flaw}
+use Rattle.java_parser.specs.Spelling.{HasNoFlaw, JSpells, IsFaulty, fault_in}
 use Rattle.java_parser.specs.Judging.{IsRead, IsJudged}
 
 size : (list : List JToken) → length (seen list) ≡ length list
@@ -126,10 +126,6 @@ judged_unit list now found x same is h = subst (λ (z : List JToken). IsJudged z
 
 pub judged_fault : (list now : List JToken) (found : Judged) (fault : SyntaxFault) (n : ℕ) → now ≡ list → found ≡ j.Fault fault n → IsJudged now found → IsFaulty list fault n
 judged_fault list now found fault n same is h = subst (λ (z : List JToken). IsJudged z (j.Fault fault n)) same (subst (IsJudged now) is h)
-
-pub flawed : (list : List JToken) (n : ℕ) (flaw : Flaw) → IsFirst (seen list) n flaw → IsFaulty list (of_flaw flaw) n
-flawed list n w.Lonely h = h
-flawed list n w.TooDeep h = h
 
 pub no_form : (list : List JToken) (n : ℕ) → HasNoFlaw (seen list) → r.unit_read (length list) (seen list) ≡ None → IsFault (seen list) n → IsFaulty list f.NoForm n
 no_form list n whole unread h =

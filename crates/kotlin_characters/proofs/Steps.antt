@@ -15,7 +15,7 @@ use Rattle.java_characters.specs.declared.letters.RawFront.TheVariants.{Stop, Pl
 use Rattle.java_tree.specs.declared.tokens.Position.{Position as java_position}
 use Rattle.java_characters.specs.Letters as java
 use Rattle.java_characters.specs.Letters.{character_front, character_of, is_two, is_three, is_four, some_front, raw_front, raw_from, raw_letters, raw_at, without_final, final_at, end_without}
-use Rattle.java_characters.proofs.Utf8.{encoded}
+use Rattle.java_characters.proofs.LawsToCite.{encoded}
 use Rattle.kotlin_characters.specs.declared.letters.Cursor.{Cursor}
 use Rattle.kotlin_characters.specs.declared.letters.Ending.TheVariants.{File, Byte}
 use Rattle.kotlin_characters.specs.Letters.{letter, stop, read_character, first_character, past, from_character, letters_from, letters}

@@ -5,7 +5,7 @@ use Rattle.kotlin_tree.specs.declared.files.KClass.{KClass}
 use Rattle.kotlin_layout.specs.Roles.{Roles, joined}
 use Rattle.kotlin_layout.specs.Shown.{class_part, classes_part}
 use Rattle.kotlin_layout.specs.Layout.{Printed, laid}
-use Rattle.kotlin_layout.proofs.Laying.{laid_append}
+use Rattle.kotlin_layout.proofs.LawsToCite.{laid_append}
 
 joined_snoc : (parts : List Roles) (part : Roles) → joined (parts ++ part ∷ []) ≡ joined parts ++ part
 joined_snoc [] part = append-nil part

@@ -39,7 +39,7 @@ use Rattle.kotlin_layout.specs.Parens.{free_place}
 use Rattle.kotlin_layout.specs.Layout.{text_of}
 use Rattle.kotlin_layout.specs.Shown.{above, called_word, arguments_roles, assigns, block_roles, body_roles, bound_roles, class_part, class_roles, class_words, classes_part, delegation_roles, empty_line, expression_roles, file_roles, has_type, import_line, imports_part, in_angles, is_absent, is_headless, in_round, member_roles, modifier_glyphs, modifiers_roles, package_part, param_roles, params_roles, rank, ranked, result_roles, setter_roles, statement_roles, super_roles, supers_roles, type_param_roles, type_params_roles, value_roles}
 use Rattle.kotlin_layout.specs.Text.{KText}
-use Rattle.kotlin_layout.proofs.Forms.{member_Property, member_Init, member_Function, member_Constructor, member_Companion}
+use Rattle.kotlin_layout.proofs.LawsToCite.{member_Property, member_Init, member_Function, member_Constructor, member_Companion}
 use Rattle.kotlin_text_laws.proofs.Parts.{both, qualified_same, if_same, type_same, declared_same}
 use Rattle.kotlin_text_laws.proofs.Text.{expression_text, statement_text}
 

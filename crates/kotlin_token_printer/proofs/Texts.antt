@@ -5,7 +5,7 @@ use Rattle.std.proofs.lemmas.List.{replicate-append-replicate}
 use Rattle.kotlin_layout.specs.declared.glyphs.Glyph.{Glyph}
 use Rattle.kotlin_layout.specs.Roles.{Role, Glyphs, fixed}
 use Rattle.kotlin_layout.specs.Layout.{Printed, indentation, laid, laid_glyph}
-use Rattle.kotlin_layout.proofs.Laying.{laid_nil, laid_cons, laid_append}
+use Rattle.kotlin_layout.proofs.LawsToCite.{laid_nil, laid_cons, laid_append}
 use Rattle.std.proofs.lemmas.List.{map-append, take_more}
 
 -- one level more
