@@ -3,13 +3,13 @@ use Rattle.std.proofs.Common.{◌≡◌, ℕ, zero, suc, ◌-◌, ◌<◌, List,
 use Rattle.java_typed.specs.declared.types.ClassRef.{ClassRef}
 use Rattle.java_typed.specs.declared.types.TType.{TType}
 use Rattle.java_typed.specs.declared.types.TType.TheVariants as t
-use Rattle.java_conversions.specs.declared.heads.Heads.{Heads}
-use Rattle.java_conversions.specs.declared.supers.Sought.{Sought}
-use Rattle.java_conversions.specs.declared.supers.Step.TheVariants as steps
-use Rattle.java_conversions.specs.Heads.{bound_in}
-use Rattle.java_conversions.specs.Supers.{climbed, onward, step}
-use Rattle.java_conversions.specs.Casts.{next_upper, upper, upper_by}
-use Rattle.java_conversions.proofs.Views.{out_variable}
+use Rattle.java_type_relations.specs.declared.heads.Heads.{Heads}
+use Rattle.java_type_relations.specs.declared.supers.Sought.{Sought}
+use Rattle.java_type_relations.specs.declared.supers.Step.TheVariants as steps
+use Rattle.java_type_relations.specs.Heads.{bound_in}
+use Rattle.java_type_relations.specs.Supers.{climbed, onward, step}
+use Rattle.java_type_relations.specs.Casts.{next_upper, upper, upper_by}
+use Rattle.java_type_relations.proofs.LawsToCite.{out_variable}
 
 pub climb_on : (heads : Heads) (s : Sought) (n : ℕ) (level next : List TType) → 0 < n → step heads s level ≡ steps.Next next →
     climbed heads s (n - 1) next ≡ climbed heads s n level

@@ -8,26 +8,9 @@ use Rattle.java_typed.specs.declared.types.TType.TheVariants as t
 use Rattle.java_typed.specs.declared.types.TypeView.{TypeView}
 use Rattle.java_typed.specs.declared.types.TypeView.TheVariants as view
 use Rattle.java_typed.specs.Reading.{shown}
-use Rattle.java_conversions.specs.declared.kinds.Simple.TheVariants as simple
-use Rattle.java_conversions.specs.Kinds.{simple_by, simple_of}
-
-out_number : (k : Kind) → out-TType (t.Number k) ≡ TType-F.Number k
-out_number k = ap out-TType (sym (t.rolls-Number k)) ∙ out-roll-TType (TType-F.Number k)
-
-out_boolean : out-TType t.Boolean ≡ TType-F.Boolean
-out_boolean = ap out-TType (sym t.rolls-Boolean) ∙ out-roll-TType TType-F.Boolean
-
-out_null : out-TType t.Null ≡ TType-F.Null
-out_null = ap out-TType (sym t.rolls-Null) ∙ out-roll-TType TType-F.Null
-
-out_class : (c : ClassRef) (xs : List TType) → out-TType (t.Class c xs) ≡ TType-F.Class c xs
-out_class c xs = ap out-TType (sym (t.rolls-Class c xs)) ∙ out-roll-TType (TType-F.Class c xs)
-
-pub out_variable : (c : ClassRef) (n : ℕ) → out-TType (t.Variable c n) ≡ TType-F.Variable c n
-out_variable c n = ap out-TType (sym (t.rolls-Variable c n)) ∙ out-roll-TType (TType-F.Variable c n)
-
-out_array : (x : TType) → out-TType (t.Array x) ≡ TType-F.Array x
-out_array x = ap out-TType (sym (t.rolls-Array x)) ∙ out-roll-TType (TType-F.Array x)
+use Rattle.java_type_relations.specs.declared.kinds.Simple.TheVariants as simple
+use Rattle.java_type_relations.specs.Kinds.{simple_by, simple_of}
+use Rattle.java_type_relations.proofs.LawsToCite.{out_array, out_boolean, out_class, out_null, out_number, out_variable}
 
 pub simple_boolean : simple_of t.Boolean ≡ Some simple.Boolean
 unfolding simple_of

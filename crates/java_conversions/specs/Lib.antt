@@ -1,7 +1,1 @@
-pub mod Types
-pub mod Heads
-pub mod Supers
-pub mod Kinds
-pub mod Subtypes
-pub mod Contexts
-pub mod Casts
+pub mod Apart

@@ -1,15 +1,16 @@
 // The conversions of casts.
 ghost use Rattle.std.specs.Prelude.{◌≡◌, IfOk};
-ghost use Rattle.java_conversions.specs.Casts as s;
+ghost use Rattle.java_type_relations.specs.Casts as s;
 ghost use Rattle.java_typed.specs.Reading.{shown};
 
 use crate::contexts::{class_type, is_boxed, is_unboxed};
-use crate::heads::{ClassForm, Heads, bound_in, form_in};
-use crate::kinds::{Simple, box_of, simple_of};
+use crate::heads::{bound_in, form_in};
+use crate::kinds::{box_of, simple_of};
 use crate::same::{is_same, is_same_view};
 use crate::subtypes::{is_below, is_object, take_apart};
-use crate::supers::{Sought, supertype};
+use crate::supers::supertype;
 use j2k_base::NoMemory;
+use java_type_relations::{ClassForm, Heads, Simple, Sought};
 use java_typed::{ClassRef, TType, TypeView, viewed};
 use std::alloc::Global;
 

@@ -1,12 +1,12 @@
 // The conversions of assignments and of arguments.
 ghost use Rattle.std.specs.Prelude.{◌≡◌, IfOk};
-ghost use Rattle.java_conversions.specs.Contexts as s;
+ghost use Rattle.java_type_relations.specs.Contexts as s;
 ghost use Rattle.java_typed.specs.Reading.{shown};
 
-use crate::heads::Heads;
-use crate::kinds::{Simple, box_of, fits, is_within, simple_in, simple_of, unboxed};
+use crate::kinds::{box_of, fits, is_within, simple_in, simple_of, unboxed};
 use crate::subtypes::is_subtype;
 use j2k_base::{Const, NoMemory};
+use java_type_relations::{Heads, Simple};
 use java_typed::{ClassRef, TType, TypeView, viewed};
 use sqlite_items::Items;
 use std::alloc::Global;

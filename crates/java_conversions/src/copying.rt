@@ -1,6 +1,6 @@
 // Copies of types, and types with arguments in the place of type parameters.
 ghost use Rattle.std.specs.Prelude.{◌≡◌, map, IfOk};
-ghost use Rattle.java_conversions.specs.Types as s;
+ghost use Rattle.java_type_relations.specs.Types as s;
 ghost use Rattle.java_typed.specs.Reading.{shown};
 
 use j2k_base::NoMemory;

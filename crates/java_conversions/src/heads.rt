@@ -1,38 +1,11 @@
-// What is declared of classes that subtyping reads.
+// Look-ups of what is declared of classes.
 ghost use Rattle.std.specs.Prelude.{◌≡◌};
 ghost use Rattle.std.specs.Option.{option_copied};
-ghost use Rattle.java_conversions.specs.Heads as s;
+ghost use Rattle.java_type_relations.specs.Heads as s;
 
-use java_typed::{ClassRef, TType, TTypes};
-use sqlite_items::{Items, at};
-
-/// Whether a class can have subclasses, and whether it is an interface.
-#[derive(Clone, Copy)]
-pub enum ClassForm {
-    Class,
-    Final,
-    Interface,
-}
-
-/// The head of a class.
-#[derive(Drop)]
-pub struct Head {
-    pub form: ClassForm,
-    /// The bound of each type parameter, Object where none is written (JLS 4.4).
-    pub bounds: TTypes,
-    /// Its direct supertypes, written with its own type parameters, the superclass first. An interface without
-    /// superinterfaces has Object here (JLS 4.10.2).
-    pub supers: TTypes,
-}
-
-/// The heads of the library's classes and of the project's, by their numbers.
-#[derive(Drop)]
-pub struct Heads {
-    pub library: Items<Head>,
-    pub project: Items<Head>,
-    /// No walk up the supertypes takes more steps.
-    pub steps: u32,
-}
+use java_type_relations::{ClassForm, Head, Heads};
+use java_typed::{ClassRef, TType};
+use sqlite_items::at;
 
 /// The head of a class; None where the number is that of no row. It takes no memory.
 pub fn head_of(heads: &Heads, class: ClassRef) -> Option<&Head>

@@ -1,17 +1,11 @@
 // Primitive types, their boxes, and which conversions there are between them.
 ghost use Rattle.std.specs.Prelude.{◌≡◌};
-ghost use Rattle.java_conversions.specs.Kinds as s;
+ghost use Rattle.java_type_relations.specs.Kinds as s;
 ghost use Rattle.java_typed.specs.Reading.{shown};
 
 use j2k_base::{Const, Kind};
+use java_type_relations::Simple;
 use java_typed::{ClassRef, TypeView};
-
-/// A primitive type (JLS 4.2).
-#[derive(Clone, Copy)]
-pub enum Simple {
-    Boolean,
-    Number(Kind),
-}
 
 /// A widening primitive conversion (JLS 5.1.2).
 pub fn widens(from: Kind, to: Kind) -> bool

@@ -1,6 +1,6 @@
 // Whether two types are the same.
 ghost use Rattle.std.specs.Prelude.{◌≡◌, map};
-ghost use Rattle.java_conversions.specs.Types as s;
+ghost use Rattle.java_type_relations.specs.Types as s;
 ghost use Rattle.java_typed.specs.Reading.{shown};
 
 use java_typed::{TType, TypeView, viewed};

@@ -1,13 +1,14 @@
 // Subtyping.
 ghost use Rattle.std.specs.Prelude.{◌≡◌, false, IfOk};
-ghost use Rattle.java_conversions.specs.Subtypes as s;
+ghost use Rattle.java_type_relations.specs.Subtypes as s;
+ghost use Rattle.java_conversions.specs.Apart.{parts};
 ghost use Rattle.java_typed.specs.Reading.{shown};
 
-use crate::heads::Heads;
 use crate::kinds::{simple_of, widens};
 use crate::same::{is_same, is_same_view};
-use crate::supers::{Sought, supertype};
+use crate::supers::supertype;
 use j2k_base::NoMemory;
+use java_type_relations::{Heads, Sought};
 use java_typed::{ClassRef, TType, TypeView, viewed};
 use std::alloc::Global;
 
@@ -22,7 +23,7 @@ pub struct Apart<'a> {
 /// What two components are within the arrays that both of them are.
 #[tactic(auto, unfolding(crate::specs::Subtypes::components))]
 fn components<'a>(a: &'a TType, b: TypeView<'a>) -> Apart<'a>
-    ensures { s.parts result ≡ s.components a.now (shown b.entry) }
+    ensures { parts result ≡ s.components a.now (shown b.entry) }
 {
     match (a, b) {
         (TType::Array(x), TypeView::Array(y)) => components(x.get(), viewed(y)),
@@ -36,7 +37,7 @@ fn components<'a>(a: &'a TType, b: TypeView<'a>) -> Apart<'a>
 
 /// Takes two types apart, as far as both are arrays.
 pub fn take_apart<'a>(a: TypeView<'a>, b: TypeView<'a>) -> Apart<'a>
-    ensures { s.parts result ≡ s.apart (shown a.entry) (shown b.entry) }
+    ensures { parts result ≡ s.apart (shown a.entry) (shown b.entry) }
 {
     match (a, b) {
         (TypeView::Array(x), TypeView::Array(y)) => components(x, viewed(y)),

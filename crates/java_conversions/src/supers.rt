@@ -2,22 +2,16 @@
 ghost use Rattle.std.specs.Prelude.{◌≡◌, find, IfOk, OnOk};
 ghost use Rattle.std.specs.List.{list_any};
 ghost use Rattle.std.specs.Option.{option_copied};
-ghost use Rattle.java_conversions.specs.Supers as s;
+ghost use Rattle.java_type_relations.specs.Supers as s;
 ghost use Rattle.java_typed.specs.Reading.{shown};
 
 use crate::copying::{Arguments, copy_type, copy_view, put};
-use crate::heads::{Heads, bound_in, supers_in};
+use crate::heads::{bound_in, supers_in};
 use j2k_base::NoMemory;
-use java_typed::{ClassRef, TType, TTypes, TypeView};
+use java_type_relations::{Heads, Sought, Step};
+use java_typed::{TType, TTypes, TypeView};
 use sqlite_items::Items;
 use std::alloc::Global;
-
-/// What a supertype is to be: of a class, or a type parameter.
-#[derive(Clone, Copy)]
-pub enum Sought {
-    Class(ClassRef),
-    Variable(ClassRef, u32),
-}
 
 fn is_sought(sought: Sought, x: &TType) -> bool
     ensures { result ≡ s.is_sought sought x.now }
@@ -133,14 +127,6 @@ fn next_level(alloc: Global, heads: &Heads, level: &[TType]) -> Result<TTypes, N
         rest = more;
     }
     Ok(found)
-}
-
-/// What a level of supertypes shows.
-#[derive(Drop)]
-pub enum Step {
-    Found(TType),
-    End,
-    Next(TTypes),
 }
 
 fn step_up(alloc: Global, heads: &Heads, sought: Sought, level: &[TType]) -> Result<Step, NoMemory>

@@ -1,3 +1,2 @@
 -- What other crates cite of this one's proofs.
 pub use Rattle.java_typing.proofs.Told.{told}
-pub use Rattle.java_typing.proofs.Ways.{supertype_is}

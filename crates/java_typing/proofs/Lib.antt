@@ -1,3 +1,2 @@
 pub mod LawsToCite
 mod Told
-mod Ways

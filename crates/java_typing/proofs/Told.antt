@@ -11,7 +11,7 @@ use Rattle.java_typed.specs.declared.exprs.TExpr.{TExpr, roll-TExpr, map-TExpr, 
 use Rattle.java_typed.specs.declared.exprs.TExpr.TheOpen.{TExpr-F}
 use Rattle.java_typed.specs.declared.exprs.TExpr.TheVariants as t
 use Rattle.java_typed.specs.Reading.{binary_type, type_by, type_of, unary_type}
-use Rattle.java_conversions.specs.declared.heads.Heads.{Heads}
+use Rattle.java_type_relations.specs.declared.heads.Heads.{Heads}
 use Rattle.java_typing.specs.Operators.{is_arithmetic, is_comparison, is_logical, is_shift, is_sign}
 use Rattle.java_typing.specs.Typing.{Claim, Declared, Fill, Go, Holds, Is}
 use Rattle.java_typing.specs.Typing as y
@@ -95,7 +95,7 @@ module _ (heads : Heads) (declared : Declared) where
   told _ (y.virtual_call x m a xs f b args h s d i hs) = formed (TExpr-F.VirtualCall x m a xs _) _ (t.rolls-VirtualCall x m a xs _)
   told _ (y.exact_call x u m a xs f b args h s d i hs) = formed (TExpr-F.ExactCall x u m a xs _) _ (t.rolls-ExactCall x u m a xs _)
   told _ (y.through x z a b h j) = formed (TExpr-F.Through x z) _ (t.rolls-Through x z) ∙ told _ j
-  told _ (y.step p o a x sum b h e) = formed (TExpr-F.Step p o a x sum) _ (t.rolls-Step p o a x sum) ∙ told _ h
+  told _ (y.step p o a x sum b v h e) = formed (TExpr-F.Step p o a x sum) _ (t.rolls-Step p o a x sum) ∙ told _ h
   told _ (y.sign o a x of e p h) =
       formed (TExpr-F.Unary o a x) _ (t.rolls-Unary o a x) ∙ sign_keeps o (type_of x) e ∙ told _ h
   told _ (y.complement a x h) = formed (TExpr-F.Unary unary.Not a x) _ (t.rolls-Unary unary.Not a x)
@@ -113,12 +113,14 @@ module _ (heads : Heads) (declared : Declared) where
   told _ (y.cast a of x b h e) = formed (TExpr-F.Cast a of x) _ (t.rolls-Cast a of x)
   told _ (y.convert c x b h e) = formed (TExpr-F.Convert c x) _ (t.rolls-Convert c x)
   told _ (y.conditional x z w of b c h i j e f) = formed (TExpr-F.Conditional x z w of) _ (t.rolls-Conditional x z w of)
-  told _ (y.assign x a z b c h j e) = formed (TExpr-F.Assign x a z) _ (t.rolls-Assign x a z) ∙ told _ h
-  told _ (y.compound x o of by a z b sum h e j) = formed (TExpr-F.Compound x o (Some of) a z) _ (t.rolls-Compound x o (Some of) a z) ∙ told _ h
-  told _ (y.compound_logical x o a z b e h f j) = formed (TExpr-F.Compound x o None a z) _ (t.rolls-Compound x o None a z) ∙ told _ h
-  told _ (y.append x a z b h j) = formed (TExpr-F.Append x a z) _ (t.rolls-Append x a z) ∙ told _ h
-  told _ (y.lambda l x m b d h) = formed (TExpr-F.Lambda l x) _ (t.rolls-Lambda l x)
-  told _ (y.lambda_block l n m d) = formed (TExpr-F.LambdaBlock l n) _ (t.rolls-LambdaBlock l n)
+  told _ (y.assign x a z b c v h j e) = formed (TExpr-F.Assign x a z) _ (t.rolls-Assign x a z) ∙ told _ h
+  told _ (y.compound x o of a z b own i v h e w j f) = formed (TExpr-F.Compound x o (Some of) a z) _ (t.rolls-Compound x o (Some of) a z) ∙ told _ h
+  told _ (y.compound_shift x o of by a z b i v h e p j f) = formed (TExpr-F.Compound x o (Some of) a z) _ (t.rolls-Compound x o (Some of) a z) ∙ told _ h
+  told _ (y.compound_bitwise x o a z b i v h e j) = formed (TExpr-F.Compound x o None a z) _ (t.rolls-Compound x o None a z) ∙ told _ h
+  told _ (y.append x a z b v h j) = formed (TExpr-F.Append x a z) _ (t.rolls-Append x a z) ∙ told _ h
+  told _ (y.lambda l x m args q b i d h e) = formed (TExpr-F.Lambda l x) _ (t.rolls-Lambda l x)
+  told _ (y.lambda_statement l x m args b i d s h) = formed (TExpr-F.Lambda l x) _ (t.rolls-Lambda l x)
+  told _ (y.lambda_block l n m args i) = formed (TExpr-F.LambdaBlock l n) _ (t.rolls-LambdaBlock l n)
   told _ (y.new_object a of m xs b c args ps e d hs) = formed (TExpr-F.New a of m xs b) _ (t.rolls-New a of m xs b)
   told _ (y.new_array a of x b e h) = formed (TExpr-F.NewArray a of x) _ (t.rolls-NewArray a of x)
   told _ (y.filled_array a of xs b e hs) = formed (TExpr-F.NewFilled a of xs) _ (t.rolls-NewFilled a of xs)

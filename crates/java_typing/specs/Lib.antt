@@ -1,3 +1,3 @@
 pub mod Operators
+pub mod Forms
 pub mod Typing
-pub mod Above

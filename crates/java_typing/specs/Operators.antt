@@ -54,6 +54,13 @@ is_logical op.AndAlso = true
 is_logical op.OrElse = true
 is_logical o = false
 
+-- `&`, `|` and `^`, which an assignment takes on truth values (JLS 15.22.2, 15.26.2)
+abbrev pub is_bitwise : Op2 → Bool
+is_bitwise op.And = true
+is_bitwise op.Or = true
+is_bitwise op.Xor = true
+is_bitwise o = false
+
 -- on a number, before it (JLS 15.15.3 to 15.15.5)
 abbrev pub is_sign : UnaryOp → Bool
 is_sign unary.Plus = true

@@ -20,18 +20,20 @@ use Rattle.java_typed.specs.declared.exprs.Conversion.TheVariants as to
 use Rattle.java_typed.specs.declared.exprs.TExpr.{TExpr}
 use Rattle.java_typed.specs.declared.exprs.TExpr.TheVariants as t
 use Rattle.java_typed.specs.declared.exprs.TLambda.{TLambda}
+use Rattle.java_typed.specs.declared.exprs.TLambdaParam.{TLambdaParam}
 use Rattle.java_typed.specs.declared.exprs.UnaryOp.{UnaryOp}
 use Rattle.java_typed.specs.declared.exprs.UnaryOp.TheVariants as unary
 use Rattle.java_typed.specs.Reading.{converted, string_type, value_type}
-use Rattle.java_conversions.specs.declared.heads.Heads.{Heads}
-use Rattle.java_conversions.specs.declared.kinds.Simple.TheVariants as simple
-use Rattle.java_conversions.specs.declared.supers.Sought.TheVariants as sought
-use Rattle.java_conversions.specs.Types.{put, same}
-use Rattle.java_conversions.specs.Kinds.{promoted, unboxed}
-use Rattle.java_conversions.specs.Supers.{supertype}
-use Rattle.java_conversions.specs.Subtypes.{is_subtype}
-use Rattle.java_conversions.specs.Casts.{is_castable}
-use Rattle.java_typing.specs.Operators.{is_arithmetic, is_comparison, is_logical, is_promoted, is_shift, is_sign}
+use Rattle.java_type_relations.specs.declared.heads.Heads.{Heads}
+use Rattle.java_type_relations.specs.declared.kinds.Simple.TheVariants as simple
+use Rattle.java_type_relations.specs.declared.supers.Sought.TheVariants as sought
+use Rattle.java_type_relations.specs.Types.{put, same}
+use Rattle.java_type_relations.specs.Kinds.{is_within, promoted, simple_in, unboxed}
+use Rattle.java_type_relations.specs.Supers.{supertype}
+use Rattle.java_type_relations.specs.Subtypes.{is_subtype}
+use Rattle.java_type_relations.specs.Casts.{is_castable}
+use Rattle.java_typing.specs.Operators.{is_arithmetic, is_bitwise, is_comparison, is_logical, is_promoted, is_shift, is_sign}
+use Rattle.java_typing.specs.Forms.{IsStatement, IsVariable}
 
 -- ---- what is declared
 
@@ -73,6 +75,13 @@ pub data Claim : Type 0 where
   Fill : List TExpr → TType → Claim
 
 module _ (heads : Heads) (declared : Declared) where
+  -- a lambda stands for a method of its interface, or of one above that (JLS 9.8, 15.27.3)
+  abbrev pub Implements : TLambda → Method → List TType → Type 0
+  Implements l method args =
+      (declared.method l.method ≡ Some method) × (method.is_static ≡ false)
+      × (supertype heads (sought.Class l.method.class) l.face ≡ Some (k.Class l.method.class args))
+      × (map (λ (p : TLambdaParam). p.kind.kind) l.params ≡ map (put l.method.class args) method.params)
+
   pub data Holds : Claim → Type 0 where
     -- ---- values in their places
 
@@ -124,7 +133,7 @@ module _ (heads : Heads) (declared : Declared) where
 
     -- JLS 15.14.2, 15.14.3, 15.15.1, 15.15.2: of the variable's type, whose promoted type the sum has
     step : (is_prefix : Bool) (o : PostfixOp) (at : Position) (x : TExpr) (sum : Kind) (a : TType) →
-        Holds (Is x (r.Value a)) → promoted a ≡ Some sum → Holds (Is (t.Step is_prefix o at x sum) (r.Value a))
+        IsVariable x → Holds (Is x (r.Value a)) → promoted a ≡ Some sum → Holds (Is (t.Step is_prefix o at x sum) (r.Value a))
     -- JLS 15.15.3 to 15.15.5
     sign : (o : UnaryOp) (at : Position) (x : TExpr) (of : Kind) →
         is_sign o ≡ true → is_promoted of ≡ true → Holds (Is x (r.Value (k.Number of))) → Holds (Is (t.Unary o at x) (r.Value (k.Number of)))
@@ -167,20 +176,29 @@ module _ (heads : Heads) (declared : Declared) where
 
     -- JLS 15.26.1
     assign : (x : TExpr) (at : Position) (y : TExpr) (a b : TType) →
-        Holds (Is x (r.Value a)) → Holds (Is y (r.Value b)) → is_subtype heads b a ≡ true → Holds (Is (t.Assign x at y) (r.Value a))
-    -- JLS 15.26.2
-    compound : (x : TExpr) (o : Op2) (of by : Kind) (at : Position) (y : TExpr) (a : TType) (sum : Kind) →
-        Holds (Is x (r.Value a)) → promoted a ≡ Some sum → Holds (Is y (r.Value (k.Number by))) → Holds (Is (t.Compound x o (Some of) at y) (r.Value a))
-    compound_logical : (x : TExpr) (o : Op2) (at : Position) (y : TExpr) (a : TType) →
-        is_logical o ≡ true → Holds (Is x (r.Value a)) → (same a k.Boolean ≡ true) → Holds (Is y (r.Value k.Boolean)) → Holds (Is (t.Compound x o None at y) (r.Value a))
+        IsVariable x → Holds (Is x (r.Value a)) → Holds (Is y (r.Value b)) → is_subtype heads b a ≡ true → Holds (Is (t.Assign x at y) (r.Value a))
+    -- JLS 15.26.2: the operator works on both operands as it does alone, and its result is cast to the variable's type
+    compound : (x : TExpr) (o : Op2) (of : Kind) (at : Position) (y : TExpr) (a : TType) (own : Kind) →
+        is_arithmetic o ≡ true → IsVariable x → Holds (Is x (r.Value a)) → promoted a ≡ Some own → is_within (simple.Number own) (simple.Number of) ≡ true →
+        Holds (Is y (r.Value (k.Number of))) → is_castable heads (k.Number of) a ≡ true → Holds (Is (t.Compound x o (Some of) at y) (r.Value a))
+    compound_shift : (x : TExpr) (o : Op2) (of by : Kind) (at : Position) (y : TExpr) (a : TType) →
+        is_shift o ≡ true → IsVariable x → Holds (Is x (r.Value a)) → promoted a ≡ Some of → is_promoted by ≡ true →
+        Holds (Is y (r.Value (k.Number by))) → is_castable heads (k.Number of) a ≡ true → Holds (Is (t.Compound x o (Some of) at y) (r.Value a))
+    compound_bitwise : (x : TExpr) (o : Op2) (at : Position) (y : TExpr) (a : TType) →
+        is_bitwise o ≡ true → IsVariable x → Holds (Is x (r.Value a)) → simple_in a ≡ Some simple.Boolean → Holds (Is y (r.Value k.Boolean)) →
+        Holds (Is (t.Compound x o None at y) (r.Value a))
     append : (x : TExpr) (at : Position) (y : TExpr) (b : TType) →
-        Holds (Is x (r.Value string_type)) → Holds (Is y (r.Value b)) → Holds (Is (t.Append x at y) (r.Value string_type))
+        IsVariable x → Holds (Is x (r.Value string_type)) → Holds (Is y (r.Value b)) → Holds (Is (t.Append x at y) (r.Value string_type))
     -- ---- lambdas, objects and arrays
 
-    -- JLS 15.27.3: the result of the body goes to that of the method, where that has one
-    lambda : (l : TLambda) (x : TExpr) (method : Method) (a : TResult) →
-        declared.method l.method ≡ Some method → Holds (Is x a) → Holds (Is (t.Lambda l x) (r.Value l.face))
-    lambda_block : (l : TLambda) (number : ℕ) (method : Method) → declared.method l.method ≡ Some method → Holds (Is (t.LambdaBlock l number) (r.Value l.face))
+    -- JLS 15.27.3: the parameters have the types of the method's, with the arguments of the interface's class; the body goes to the
+    -- result, and may be an expression where there is none if that may stand as a statement
+    lambda : (l : TLambda) (x : TExpr) (method : Method) (args : List TType) (result a : TType) →
+        Implements l method args → method.result ≡ r.Value result → Holds (Is x (r.Value a)) → is_subtype heads a (put l.method.class args result) ≡ true →
+        Holds (Is (t.Lambda l x) (r.Value l.face))
+    lambda_statement : (l : TLambda) (x : TExpr) (method : Method) (args : List TType) (a : TResult) →
+        Implements l method args → method.result ≡ r.Void → IsStatement x → Holds (Is x a) → Holds (Is (t.Lambda l x) (r.Value l.face))
+    lambda_block : (l : TLambda) (number : ℕ) (method : Method) (args : List TType) → Implements l method args → Holds (Is (t.LambdaBlock l number) (r.Value l.face))
     -- JLS 15.9.3
     new_object : (at : Position) (of : TWritten) (member : MemberRef) (xs : List TExpr) (body : Option ℕ) (c : ClassRef) (args params : List TType) →
         of.kind ≡ k.Class c args → declared.constructor_params member ≡ Some params → Holds (Go xs (map (put c args) params)) →

@@ -1,7 +1,7 @@
 //! When a typed expression of Java is well typed: a relation by the sections of JLS 4 and 15, which looks for no member and
-//! chooses none; and which types stand above a type.
+//! chooses none.
 #![tactic(auto)]
 
 mod laws;
 
-pub use laws::{one_type, supertypes_stand_above};
+pub use laws::one_type;

@@ -1,5 +1,5 @@
 use Rattle.std.proofs.Common.{◌≡◌, length}
-use Rattle.java_conversions.specs.Casts.{has_distinct}
+use Rattle.java_type_relations.specs.Casts.{has_distinct}
 use Rattle.java_conversions.proofs.casts.has_distinct.Given as goal
 
 abbrev pub invariant-loop-xs_left : goal.invariant-loop-xs_left

@@ -1,8 +1,8 @@
 use Rattle.std.proofs.Common.{◌≡◌, ◌-◌, Some, sym, ap, ◌∙◌}
 use Rattle.std.specs.Option.{option_copied}
 use Rattle.java_typed.specs.Reading.{shown}
-use Rattle.java_conversions.specs.Heads.{bound_in}
-use Rattle.java_conversions.specs.Casts.{upper}
+use Rattle.java_type_relations.specs.Heads.{bound_in}
+use Rattle.java_type_relations.specs.Casts.{upper}
 use Rattle.java_conversions.proofs.Climbs.{upper_on}
 use Rattle.java_conversions.proofs.casts.upper.Goals as goal
 

@@ -1,6 +1,6 @@
 use Rattle.std.proofs.Common.{◌≡◌}
 use Rattle.java_typed.specs.Reading.{shown}
-use Rattle.java_conversions.specs.Casts.{upper}
+use Rattle.java_type_relations.specs.Casts.{upper}
 use Rattle.java_conversions.proofs.casts.upper.Given as goal
 
 abbrev pub invariant-loop-steps : goal.invariant-loop-steps

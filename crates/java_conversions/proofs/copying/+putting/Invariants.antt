@@ -1,5 +1,5 @@
 use Rattle.std.proofs.Common.{◌≡◌, map, take}
-use Rattle.java_conversions.specs.Types.{put}
+use Rattle.java_type_relations.specs.Types.{put}
 use Rattle.java_conversions.proofs.copying.+putting.Given as goal
 
 abbrev pub invariant-put_each-loop-x : goal.invariant-put_each-loop-x

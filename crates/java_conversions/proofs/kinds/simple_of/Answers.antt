@@ -1,5 +1,5 @@
 use Rattle.std.proofs.Common.{rules, ◌≡◌, Some, refl, sym, ◌∙◌}
-use Rattle.java_conversions.specs.Kinds.{simple_of}
+use Rattle.java_type_relations.specs.Kinds.{simple_of}
 use Rattle.java_conversions.proofs.Views.{simple_boolean, simple_number, simple_none}
 use Rattle.java_conversions.proofs.kinds.simple_of.Goals as goal
 

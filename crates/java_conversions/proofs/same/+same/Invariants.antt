@@ -1,5 +1,5 @@
 use Rattle.std.proofs.Common.{◌≡◌, map, drop}
-use Rattle.java_conversions.specs.Types.{same, same_each}
+use Rattle.java_type_relations.specs.Types.{same, same_each}
 use Rattle.java_conversions.proofs.same.+same.Given as goal
 
 abbrev pub invariant-same_row-loop-x : goal.invariant-same_row-loop-x

@@ -1,5 +1,5 @@
 use Rattle.std.proofs.Common.{◌≡◌, length}
-use Rattle.java_conversions.specs.Supers.{added_puts}
+use Rattle.java_type_relations.specs.Supers.{added_puts}
 use Rattle.java_conversions.proofs.supers.add_puts.Given as goal
 
 abbrev pub invariant-loop-rest : goal.invariant-loop-rest

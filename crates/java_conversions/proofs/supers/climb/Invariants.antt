@@ -1,5 +1,5 @@
 use Rattle.std.proofs.Common.{◌≡◌}
-use Rattle.java_conversions.specs.Supers.{climbed}
+use Rattle.java_type_relations.specs.Supers.{climbed}
 use Rattle.java_conversions.proofs.supers.climb.Given as goal
 
 abbrev pub invariant-loop-steps : goal.invariant-loop-steps

@@ -1,5 +1,5 @@
 use Rattle.std.proofs.Common.{◌≡◌, length, find}
-use Rattle.java_conversions.specs.Supers.{is_sought}
+use Rattle.java_type_relations.specs.Supers.{is_sought}
 use Rattle.java_conversions.proofs.supers.first_sought.Given as goal
 
 abbrev pub invariant-loop-rest : goal.invariant-loop-rest

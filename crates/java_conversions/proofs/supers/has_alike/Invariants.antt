@@ -1,6 +1,6 @@
 use Rattle.std.proofs.Common.{◌≡◌, length}
 use Rattle.std.specs.List.{list_any}
-use Rattle.java_conversions.specs.Supers.{is_alike}
+use Rattle.java_type_relations.specs.Supers.{is_alike}
 use Rattle.java_conversions.proofs.supers.has_alike.Given as goal
 
 abbrev pub invariant-loop-rest : goal.invariant-loop-rest

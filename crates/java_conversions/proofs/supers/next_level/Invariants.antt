@@ -1,5 +1,5 @@
 use Rattle.std.proofs.Common.{◌≡◌, length}
-use Rattle.java_conversions.specs.Supers.{next_from, next_level}
+use Rattle.java_type_relations.specs.Supers.{next_from, next_level}
 use Rattle.java_conversions.proofs.supers.next_level.Given as goal
 
 abbrev pub invariant-loop-rest : goal.invariant-loop-rest

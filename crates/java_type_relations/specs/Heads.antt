@@ -3,10 +3,10 @@ use Rattle.std.specs.Prelude.{ℕ, List, [], Option, Some, None, slice_get}
 use Rattle.java_typed.specs.declared.types.ClassRef.{ClassRef}
 use Rattle.java_typed.specs.declared.types.ClassRef.TheVariants as class
 use Rattle.java_typed.specs.declared.types.TType.{TType}
-use Rattle.java_conversions.specs.declared.heads.ClassForm.{ClassForm}
-use Rattle.java_conversions.specs.declared.heads.ClassForm.TheVariants as form
-use Rattle.java_conversions.specs.declared.heads.Head.{Head}
-use Rattle.java_conversions.specs.declared.heads.Heads.{Heads}
+use Rattle.java_type_relations.specs.declared.heads.ClassForm.{ClassForm}
+use Rattle.java_type_relations.specs.declared.heads.ClassForm.TheVariants as form
+use Rattle.java_type_relations.specs.declared.heads.Head.{Head}
+use Rattle.java_type_relations.specs.declared.heads.Heads.{Heads}
 
 abbrev pub head_of : Heads → ClassRef → Option Head
 head_of heads (class.Library n) = slice_get heads.library n

@@ -5,14 +5,12 @@ use Rattle.java_typed.specs.declared.types.ClassRef.{ClassRef}
 use Rattle.java_typed.specs.declared.types.ClassRef.TheVariants as class
 use Rattle.java_typed.specs.declared.types.TType.{TType, fold-TType, out-TType}
 use Rattle.java_typed.specs.declared.types.TType.TheOpen.{TType-F}
-use Rattle.java_conversions.specs.declared.heads.Heads.{Heads}
-use Rattle.java_conversions.specs.declared.supers.Sought.{Sought}
-use Rattle.java_conversions.specs.declared.supers.Sought.TheVariants as sought
-use Rattle.java_conversions.specs.declared.subtypes.Apart.{Apart}
-use Rattle.java_typed.specs.Reading.{shown}
-use Rattle.java_conversions.specs.Types.{same, same_class, same_kind}
-use Rattle.java_conversions.specs.Kinds.{simple_of, widens}
-use Rattle.java_conversions.specs.Supers.{supertype}
+use Rattle.java_type_relations.specs.declared.heads.Heads.{Heads}
+use Rattle.java_type_relations.specs.declared.supers.Sought.{Sought}
+use Rattle.java_type_relations.specs.declared.supers.Sought.TheVariants as sought
+use Rattle.java_type_relations.specs.Types.{same, same_class, same_kind}
+use Rattle.java_type_relations.specs.Kinds.{simple_of, widens}
+use Rattle.java_type_relations.specs.Supers.{supertype}
 
 -- ---- what two types are within the arrays that both of them are
 
@@ -20,9 +18,6 @@ pub record Parts : Type 0 where
   pub deep : Bool
   pub a : TType
   pub b : TType
-
-abbrev pub parts : Apart → Parts
-parts x = record { deep = x.deep; a = shown x.a; b = shown x.b }
 
 abbrev pub within : (TType → TType → Parts) → TType-F TType → TType-F TType → TType → TType → Parts
 within f (TType-F.Array x) (TType-F.Array y) a b = f x y

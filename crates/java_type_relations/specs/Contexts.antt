@@ -4,10 +4,10 @@ use Rattle.j2k_base.specs.declared.constants.Const.{Const}
 use Rattle.java_typed.specs.declared.types.ClassRef.{ClassRef}
 use Rattle.java_typed.specs.declared.types.TType.{TType}
 use Rattle.java_typed.specs.declared.types.TType.TheVariants as t
-use Rattle.java_conversions.specs.declared.heads.Heads.{Heads}
-use Rattle.java_conversions.specs.declared.kinds.Simple.{Simple}
-use Rattle.java_conversions.specs.Kinds.{box_of, fits, is_within, simple_in, simple_of, unboxed}
-use Rattle.java_conversions.specs.Subtypes.{is_subtype}
+use Rattle.java_type_relations.specs.declared.heads.Heads.{Heads}
+use Rattle.java_type_relations.specs.declared.kinds.Simple.{Simple}
+use Rattle.java_type_relations.specs.Kinds.{box_of, fits, is_within, simple_in, simple_of, unboxed}
+use Rattle.java_type_relations.specs.Subtypes.{is_subtype}
 
 abbrev pub class_type : ClassRef → TType
 class_type c = t.Class c []

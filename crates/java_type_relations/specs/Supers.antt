@@ -5,13 +5,13 @@ use Rattle.java_typed.specs.declared.types.ClassRef.{ClassRef}
 use Rattle.java_typed.specs.declared.types.TType.{TType, out-TType}
 use Rattle.java_typed.specs.declared.types.TType.TheOpen.{TType-F}
 use Rattle.java_typed.specs.declared.types.TType.TheVariants as t
-use Rattle.java_conversions.specs.declared.heads.Heads.{Heads}
-use Rattle.java_conversions.specs.declared.supers.Sought.{Sought}
-use Rattle.java_conversions.specs.declared.supers.Sought.TheVariants as sought
-use Rattle.java_conversions.specs.declared.supers.Step.{Step}
-use Rattle.java_conversions.specs.declared.supers.Step.TheVariants as steps
-use Rattle.java_conversions.specs.Types.{put, same_class}
-use Rattle.java_conversions.specs.Heads.{bound_in, supers_in}
+use Rattle.java_type_relations.specs.declared.heads.Heads.{Heads}
+use Rattle.java_type_relations.specs.declared.supers.Sought.{Sought}
+use Rattle.java_type_relations.specs.declared.supers.Sought.TheVariants as sought
+use Rattle.java_type_relations.specs.declared.supers.Step.{Step}
+use Rattle.java_type_relations.specs.declared.supers.Step.TheVariants as steps
+use Rattle.java_type_relations.specs.Types.{put, same_class}
+use Rattle.java_type_relations.specs.Heads.{bound_in, supers_in}
 
 -- ---- which supertype is meant
 

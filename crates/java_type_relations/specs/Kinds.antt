@@ -9,9 +9,9 @@ use Rattle.java_typed.specs.declared.types.ClassRef.{ClassRef}
 use Rattle.java_typed.specs.declared.types.ClassRef.TheVariants as class
 use Rattle.java_typed.specs.declared.types.TType.{TType, out-TType}
 use Rattle.java_typed.specs.declared.types.TType.TheOpen.{TType-F}
-use Rattle.java_conversions.specs.declared.kinds.Simple.{Simple}
-use Rattle.java_conversions.specs.declared.kinds.Simple.TheVariants as simple
-use Rattle.java_conversions.specs.Types.{same_kind}
+use Rattle.java_type_relations.specs.declared.kinds.Simple.{Simple}
+use Rattle.java_type_relations.specs.declared.kinds.Simple.TheVariants as simple
+use Rattle.java_type_relations.specs.Types.{same_kind}
 
 -- widening primitive conversions (JLS 5.1.2)
 abbrev pub widens : Kind → Kind → Bool

@@ -4,18 +4,18 @@ use Rattle.java_typed.specs.declared.types.ClassRef.{ClassRef}
 use Rattle.java_typed.specs.declared.types.TType.{TType, out-TType}
 use Rattle.java_typed.specs.declared.types.TType.TheOpen.{TType-F}
 use Rattle.java_typed.specs.declared.types.TType.TheVariants as t
-use Rattle.java_conversions.specs.declared.heads.ClassForm.{ClassForm}
-use Rattle.java_conversions.specs.declared.heads.ClassForm.TheVariants as form
-use Rattle.java_conversions.specs.declared.heads.Heads.{Heads}
-use Rattle.java_conversions.specs.declared.kinds.Simple.{Simple}
-use Rattle.java_conversions.specs.declared.kinds.Simple.TheVariants as simple
-use Rattle.java_conversions.specs.declared.supers.Sought.TheVariants as sought
-use Rattle.java_conversions.specs.Contexts.{class_type, is_boxed, is_unboxed}
-use Rattle.java_conversions.specs.Heads.{bound_in, form_in}
-use Rattle.java_conversions.specs.Kinds.{box_of, simple_of}
-use Rattle.java_conversions.specs.Subtypes.{Parts, apart, is_below, is_object}
-use Rattle.java_conversions.specs.Supers.{supertype}
-use Rattle.java_conversions.specs.Types.{same}
+use Rattle.java_type_relations.specs.declared.heads.ClassForm.{ClassForm}
+use Rattle.java_type_relations.specs.declared.heads.ClassForm.TheVariants as form
+use Rattle.java_type_relations.specs.declared.heads.Heads.{Heads}
+use Rattle.java_type_relations.specs.declared.kinds.Simple.{Simple}
+use Rattle.java_type_relations.specs.declared.kinds.Simple.TheVariants as simple
+use Rattle.java_type_relations.specs.declared.supers.Sought.TheVariants as sought
+use Rattle.java_type_relations.specs.Contexts.{class_type, is_boxed, is_unboxed}
+use Rattle.java_type_relations.specs.Heads.{bound_in, form_in}
+use Rattle.java_type_relations.specs.Kinds.{box_of, simple_of}
+use Rattle.java_type_relations.specs.Subtypes.{Parts, apart, is_below, is_object}
+use Rattle.java_type_relations.specs.Supers.{supertype}
+use Rattle.java_type_relations.specs.Types.{same}
 
 -- between primitive types: each number to each (JLS 5.1.2 to 5.1.4)
 abbrev pub is_simple_cast : Simple → Simple → Bool

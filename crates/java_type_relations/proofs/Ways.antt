@@ -5,12 +5,12 @@ use Rattle.java_typed.specs.declared.types.ClassRef.{ClassRef}
 use Rattle.java_typed.specs.declared.types.TType.{TType, roll-TType, out-TType, roll-out-TType}
 use Rattle.java_typed.specs.declared.types.TType.TheOpen.{TType-F}
 use Rattle.java_typed.specs.declared.types.TType.TheVariants as t
-use Rattle.java_conversions.specs.declared.heads.Heads.{Heads}
-use Rattle.java_conversions.specs.declared.supers.Sought.{Sought}
-use Rattle.java_conversions.specs.Types.{put}
-use Rattle.java_conversions.specs.Heads.{bound_in, supers_in}
-use Rattle.java_conversions.specs.Supers.{added, added_bound, added_by, added_puts, added_supers, climbed, is_alike, is_sought, next_from, next_level, onward, step_by, supertype}
-use Rattle.java_typing.specs.Above.{Above, IsIn, itself, of_class, of_parameter, up}
+use Rattle.java_type_relations.specs.declared.heads.Heads.{Heads}
+use Rattle.java_type_relations.specs.declared.supers.Sought.{Sought}
+use Rattle.java_type_relations.specs.Types.{put}
+use Rattle.java_type_relations.specs.Heads.{bound_in, supers_in}
+use Rattle.java_type_relations.specs.Supers.{added, added_bound, added_by, added_puts, added_supers, climbed, is_alike, is_sought, next_from, next_level, onward, step_by, supertype}
+use Rattle.java_type_relations.specs.Above.{Above, IsIn, itself, of_class, of_parameter, up}
 
 module _ (heads : Heads) (x : TType) where
   abbrev AllAbove : List TType → Type 0

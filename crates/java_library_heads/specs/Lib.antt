@@ -1,0 +1,2 @@
+pub mod LibraryHeads
+pub mod Rows

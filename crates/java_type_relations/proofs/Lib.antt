@@ -1,0 +1,8 @@
+mod Forms
+mod Sameness
+mod Nodes
+mod Ways
+mod Found
+mod Subtyping
+mod Methods
+pub mod LawsToCite

@@ -1,0 +1,5 @@
+use Rattle.java_type_relations.proofs.Sameness.{equal_same, same_tells}
+use Rattle.java_type_relations.proofs.laws.same_is_equal.Goals as goal
+
+pub returns : goal.returns
+returns c = λ x y. (same_tells x y, equal_same x y)

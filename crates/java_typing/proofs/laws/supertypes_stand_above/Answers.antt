@@ -1,5 +1,0 @@
-use Rattle.java_typing.proofs.Ways.{supertype_is}
-use Rattle.java_typing.proofs.laws.supertypes_stand_above.Goals as goal
-
-pub returns : goal.returns
-returns c = supertype_is
