@@ -46,7 +46,7 @@ fn supers(alloc: Global, own: ClassRef, rows: &[Above]) -> Result<TTypes, NoMemo
 }
 
 fn head(alloc: Global, row: HeadRow) -> Result<Head, NoMemory>
-    ensures { IfOk result (λ r. r ≡ head_of row.entry) }
+    ensures { IfOk result (λ r. r ≡ head_of row) }
 {
     let bounds = bounds(alloc, row.places)?;
     let supers = supers(alloc, ClassRef::Library(row.number), row.supers)?;

@@ -5,4 +5,5 @@ mod Ways
 mod Found
 mod Subtyping
 mod Methods
+mod Cycles
 pub mod LawsToCite

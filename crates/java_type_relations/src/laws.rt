@@ -1,6 +1,6 @@
 //! What types, supertypes and the choice of methods promise.
 
-ghost use Rattle.std.specs.Prelude.{◌≡◌, ◌↔◌, ℕ, true, List, Some};
+ghost use Rattle.std.specs.Prelude.{◌≡◌, ◌↔◌, ◌<◌, ℕ, true, List, Some, length};
 ghost use Rattle.java_typed.specs.declared.types.ClassRef.{ClassRef};
 ghost use Rattle.java_typed.specs.declared.types.TType.{TType};
 ghost use Rattle.java_typed.specs.declared.types.TType.TheVariants as t;
@@ -8,7 +8,7 @@ ghost use Rattle.java_type_relations.specs.declared.heads.Heads.{Heads};
 ghost use Rattle.java_type_relations.specs.declared.supers.Sought.{Sought};
 ghost use Rattle.java_type_relations.specs.Types.{same};
 ghost use Rattle.java_type_relations.specs.Supers.{is_sought, supertype};
-ghost use Rattle.java_type_relations.specs.Above.{Above, HasClassesAbove, HasHeights, HasOneOfEach, IsBounded, IsIn};
+ghost use Rattle.java_type_relations.specs.Above.{Above, HasClassesAbove, HasHeights, HasOneOfEach, IsAcyclic, IsBounded, IsIn, nodes};
 ghost use Rattle.java_type_relations.specs.Subtypes.{is_subtype};
 ghost use Rattle.java_type_relations.specs.Applicable.{applicable, takes_loosely, takes_strictly};
 
@@ -34,9 +34,11 @@ pub fn subtypes_stand_below()
     ensures parameters { (heads : Heads) → HasClassesAbove heads → IsBounded heads → HasOneOfEach heads → (c d : ClassRef) (n : ℕ) (ys : List TType) → (is_subtype heads (t.Variable c n) (t.Class d ys) ≡ true) ↔ Above heads (t.Variable c n) (t.Class d ys) }
 {}
 
-/// No walk is too long where types have heights: so the search ends with all of them looked at.
-pub fn heights_bound_walks()
-    ensures { (heads : Heads) (height : TType → ℕ) → HasHeights heads height → IsBounded heads }
+/// On a table without cycles no walk is too long that may take more steps than there are classes and type parameters (JLS 8.1.4),
+/// nor is one where types have heights.
+pub fn walks_are_long_enough()
+    ensures acyclic { (heads : Heads) → IsAcyclic heads → length (nodes heads) < heads.steps → IsBounded heads }
+    ensures heights { (heads : Heads) (height : TType → ℕ) → HasHeights heads height → IsBounded heads }
 {}
 
 /// An applicable method takes the arguments, and by subtyping alone where any of the methods does (JLS 15.12.2.2, 15.12.2.3).
