@@ -35,6 +35,7 @@ null Object; null String; null int[]; null T; null List<String>; null Runnable
 String Object; Object String; String String; String Integer; Integer Object; Integer Long
 Derived Base; Base Derived; Derived Shape; Derived Solid; Solid Shape; Shape Solid; Solid Object; Shape Object; Base Solid
 Leaf Shape; Leaf Derived; Both Left; Both Right; Both Shape; Both Base; Left Shape; Left Right; Both Leaf
+Thread Runnable; Runnable Thread; Thread Object; Runnable Object; Thread String
 List<String> List<String>; List<String> List<Object>; List<Object> List<String>; ArrayList<String> List<String>
 ArrayList<String> List<Object>; ArrayList<String> Object; List<String> ArrayList<String>
 HashMap<String,Integer> Map<String,Integer>; HashMap<String,Integer> Map<Integer,String>; HashMap<String,List<Integer>> Map<String,List<Integer>>

@@ -2,8 +2,9 @@
 
 use crate::types::type_of;
 use j2k_base::NoMemory;
-use java_conversions::{ClassForm, Head, Heads};
-use java_lib::{ClassRow, simple_row};
+use java_lib::simple_row;
+use java_library_heads::library_heads;
+use java_type_relations::{ClassForm, Head, Heads};
 use java_typed::{ClassRef, TTypes};
 use sqlite_items::Items;
 use std::alloc::Global;
@@ -42,47 +43,6 @@ const PROJECT: [Row; 15] = [
     row!(Class "Use" ["Object" "Base" "U" "String Box/1"] ["Object"]),
 ];
 
-/// The classes of the library in the order of their numbers.
-const LIBRARY: [(&str, ClassForm); 37] = [
-    ("Object", ClassForm::Class),
-    ("String", ClassForm::Final),
-    ("StringBuilder", ClassForm::Final),
-    ("Integer", ClassForm::Final),
-    ("Long", ClassForm::Final),
-    ("Short", ClassForm::Final),
-    ("Byte", ClassForm::Final),
-    ("Character", ClassForm::Final),
-    ("Boolean", ClassForm::Final),
-    ("Math", ClassForm::Final),
-    ("ArrayList", ClassForm::Class),
-    ("HashMap", ClassForm::Class),
-    ("List", ClassForm::Interface),
-    ("Map", ClassForm::Interface),
-    ("Runnable", ClassForm::Interface),
-    ("Thread", ClassForm::Class),
-    ("System", ClassForm::Final),
-    ("Throwable", ClassForm::Class),
-    ("Exception", ClassForm::Class),
-    ("Error", ClassForm::Class),
-    ("RuntimeException", ClassForm::Class),
-    ("InterruptedException", ClassForm::Class),
-    ("IOException", ClassForm::Class),
-    ("ArithmeticException", ClassForm::Class),
-    ("ClassCastException", ClassForm::Class),
-    ("IllegalArgumentException", ClassForm::Class),
-    ("IllegalStateException", ClassForm::Class),
-    ("IndexOutOfBoundsException", ClassForm::Class),
-    ("NegativeArraySizeException", ClassForm::Class),
-    ("NullPointerException", ClassForm::Class),
-    ("ConcurrentModificationException", ClassForm::Class),
-    ("NumberFormatException", ClassForm::Class),
-    ("IllegalThreadStateException", ClassForm::Class),
-    ("ArrayIndexOutOfBoundsException", ClassForm::Class),
-    ("StringIndexOutOfBoundsException", ClassForm::Class),
-    ("ExceptionInInitializerError", ClassForm::Class),
-    ("NoClassDefFoundError", ClassForm::Class),
-];
-
 /// The class of a name, and Object where no class has it.
 pub fn class_of(name: &str) -> ClassRef {
     for (number, row) in PROJECT.iter().enumerate() {
@@ -113,60 +73,6 @@ fn project_head(alloc: Global, own: ClassRef, row: Row) -> Result<Head, NoMemory
         bounds,
         supers,
     })
-}
-
-/// What stands above a class of the library: its type parameters are those of the class.
-fn above(row: &ClassRow) -> Option<&'static str> {
-    match row.above? {
-        12 => Some("T List/1"),
-        13 => Some("T U Map/2"),
-        17 => Some("Throwable"),
-        18 => Some("Exception"),
-        19 => Some("Error"),
-        20 => Some("RuntimeException"),
-        25 => Some("IllegalArgumentException"),
-        27 => Some("IndexOutOfBoundsException"),
-        _ => Some("Object"),
-    }
-}
-
-/// The bounds of type parameters that have none in the text.
-fn objects(count: u8) -> &'static [&'static str] {
-    match count {
-        0 => &[],
-        1 => &["Object"],
-        _ => &["Object", "Object"],
-    }
-}
-
-fn library_head(alloc: Global, name: &str, form: ClassForm) -> Result<Head, NoMemory> {
-    let Some(row) = simple_row(name.as_bytes()) else {
-        return Ok(Head {
-            form,
-            bounds: Items::new(alloc),
-            supers: Items::new(alloc),
-        });
-    };
-    let own = ClassRef::Library(row.number);
-    let bounds = types_of(alloc, own, objects(row.params))?;
-    let supers = match above(row) {
-        Some(text) => types_of(alloc, own, &[text])?,
-        None => Items::new(alloc),
-    };
-    Ok(Head {
-        form,
-        bounds,
-        supers,
-    })
-}
-
-fn library_heads(alloc: Global) -> Result<Items<Head>, NoMemory> {
-    let mut found = Items::new(alloc);
-    for (name, form) in LIBRARY {
-        let head = library_head(alloc, name, form)?;
-        found.push(head)?;
-    }
-    Ok(found)
 }
 
 fn project_heads(alloc: Global) -> Result<Items<Head>, NoMemory> {

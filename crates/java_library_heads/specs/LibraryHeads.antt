@@ -53,7 +53,7 @@ head c =
     record {
       form = form_of c.number;
       bounds = map bound_at (places c.params);
-      supers = map (super_type (class.Library c.number)) (above_by c.above ++ further c.number)
+      supers = map (super_type (class.Library c.number)) (above_by c.above ++ further c.number);
     }
 
 abbrev pub library_heads : List Head

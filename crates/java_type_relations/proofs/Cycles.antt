@@ -1,18 +1,16 @@
 -- On a table without cycles no way up has more steps than there are classes and type parameters.
 use Rattle.std.proofs.Common.{◌≡◌, ◌⊎◌, ◌<◌, ◌≤◌, ◌+◌, ℕ, zero, suc, true, List, [], ◌∷◌, ◌++◌, length, Option, Some, None, inl, inr, refl, sym, ap, subst, ◌∙◌, arith}
 use Rattle.std.specs.Prelude.{slice_get}
-use Rattle.std.proofs.lemmas.List.{length-append}
 use Rattle.std.proofs.lemmas.Option.{slice_get_past}
 use Rattle.java_typed.specs.declared.types.ClassRef.{ClassRef}
 use Rattle.java_typed.specs.declared.types.ClassRef.TheVariants as class
 use Rattle.java_typed.specs.declared.types.TType.{TType}
-use Rattle.java_typed.specs.declared.types.TType.TheVariants as t
 use Rattle.java_type_relations.specs.declared.heads.Head.{Head}
 use Rattle.java_type_relations.specs.declared.heads.Heads.{Heads}
 use Rattle.java_type_relations.specs.declared.supers.Sought.{Sought}
 use Rattle.java_type_relations.specs.declared.supers.Sought.TheVariants as sought
-use Rattle.java_type_relations.specs.Heads.{bound_by, bound_in, head_of, supers_by, supers_in}
-use Rattle.java_type_relations.specs.Supers.{is_alike, is_sought}
+use Rattle.java_type_relations.specs.Heads.{bound_by, head_of, supers_by}
+use Rattle.java_type_relations.specs.Supers.{is_sought}
 use Rattle.java_type_relations.specs.Above.{Climbs, Direct, IsAcyclic, IsBounded, IsIn, here, nodes, nodes_from, of_class, of_parameter, on, parameters_from}
 use Rattle.java_type_relations.proofs.Nodes.{class_is_node, sought_alike, variable_is_node}
 
@@ -43,7 +41,7 @@ without x [] i = absurd i
 without x (y ∷ ys) (inl e) = (ys, refl, λ s j. elim j [ inl h ↦ inl (h ∙ sym e) | inr h ↦ inr h ])
 without x (y ∷ ys) (inr i) =
     let one : Without x ys = without x ys i in
-    (y ∷ one.0, ap suc one.1, λ s j. elim j [ | inl h ↦ inr (inl h) | inr h ↦ elim (one.2 s h) [ inl k ↦ inl k | inr k ↦ inr (inr k) ] ])
+    (y ∷ one.0, ap suc one.1, λ s j. elim j [ inl h ↦ inr (inl h) | inr h ↦ elim (one.2 s h) [ inl k ↦ inl k | inr k ↦ inr (inr k) ] ])
 
 no_longer : (xs ys : List Sought) → Differ xs → AreWithin xs ys → length xs ≤ length ys
 no_longer [] ys d w = omega arith
@@ -77,7 +75,7 @@ variable_in numbered k zero m p (x ∷ xs) row b h g e =
     let got : slice_get x.bounds p ≡ Some b = subst (λ (r : Head). slice_get r.bounds p ≡ Some b) (sym row_is) g in
     let found : IsIn (sought.Variable (numbered k) p) (parameters_from (numbered k) 0 x.bounds) = parameter_in (numbered k) 0 p p x.bounds b got (omega arith) in
     inr (in_left (sought.Variable (numbered m) p) (parameters_from (numbered k) 0 x.bounds) (nodes_from numbered (suc k) xs)
-      (subst (λ v. IsIn (sought.Variable (numbered v) p) (parameters_from (numbered k) 0 x.bounds)) is found))
+    (subst (λ v. IsIn (sought.Variable (numbered v) p) (parameters_from (numbered k) 0 x.bounds)) is found))
 variable_in numbered k (suc n) m p (x ∷ xs) row b h g e =
     inr (in_right (sought.Variable (numbered m) p) (parameters_from (numbered k) 0 x.bounds) (nodes_from numbered (suc k) xs) (variable_in numbered (suc k) n m p xs row b h g (omega arith)))
 
@@ -119,13 +117,16 @@ module _ (heads : Heads) where
       let before : Way n y = way acyclic x y n c in
       let node : Listed y = listed y z d in
       let new : IsIn node.0 before.0 → ⊥ = λ i. (let met : (w : TType) × (k : ℕ) × Climbs heads w (suc k) y × (is_sought node.0 w ≡ true) = before.4 node.0 i in
-        acyclic met.0 y met.1 met.2 (sought_alike node.0 met.0 y met.3 node.1)) in
-      (node.0 ∷ before.0, ap suc before.1, (new, before.2),
+      acyclic met.0 y met.1 met.2 (sought_alike node.0 met.0 y met.3 node.1)) in (
+        node.0 ∷ before.0,
+        ap suc before.1,
+        (new, before.2),
         λ s i. elim i [ inl e ↦ subst (λ v. IsIn v (nodes heads)) (sym e) node.2 | inr j ↦ before.3 s j ],
         λ s i. elim i [
           | inl e ↦ (y, zero, on zero y z here d, subst (λ v. is_sought v y ≡ true) (sym e) node.1)
           | inr j ↦ (let met : (w : TType) × (k : ℕ) × Climbs heads w (suc k) y × (is_sought s w ≡ true) = before.4 s j in (met.0, suc met.1, on (suc met.1) y z met.2 d, met.3))
-        ])
+        ],
+      )
 
 pub acyclic_bounded : (heads : Heads) → IsAcyclic heads → length (nodes heads) < heads.steps → IsBounded heads
 acyclic_bounded heads acyclic enough x y n c =

@@ -9,12 +9,12 @@ use Rattle.java_typed.specs.declared.types.TType.TheVariants as t
 use Rattle.java_type_relations.specs.declared.heads.Heads.{Heads}
 use Rattle.java_type_relations.specs.declared.supers.Sought.{Sought}
 use Rattle.java_type_relations.specs.declared.supers.Sought.TheVariants as sought
-use Rattle.java_type_relations.specs.Types.{put, same_class}
+use Rattle.java_type_relations.specs.Types.{put}
 use Rattle.java_type_relations.specs.Heads.{bound_in, supers_in}
-use Rattle.java_type_relations.specs.Supers.{added, added_bound, added_by, added_puts, added_supers, climbed, is_alike, is_sought, is_sought_form, next_from, next_level, onward, step_by, supertype}
+use Rattle.java_type_relations.specs.Supers.{added, added_bound, added_by, added_puts, added_supers, climbed, is_alike, is_sought, next_from, next_level, onward, step_by, supertype}
 use Rattle.java_type_relations.specs.Above.{Above, Climbs, Direct, HasClassesAbove, HasOneOfEach, IsBounded, IsIn, here, itself, of_class, of_parameter, on, up}
 use Rattle.java_type_relations.proofs.Forms.{out_class, out_variable}
-use Rattle.java_type_relations.proofs.Sameness.{and_tells, class_tells}
+use Rattle.java_type_relations.proofs.Sameness.{class_tells}
 use Rattle.java_type_relations.proofs.Nodes.{alike_sought, class_is_node, class_sought, node_tells, sought_alike, sought_put, variable_is_node, variable_sought}
 use Rattle.java_type_relations.proofs.Ways.{supertype_is}
 
@@ -116,7 +116,7 @@ module _ (heads : Heads) where
       let is : z ≡ t.Class c node.0 = node.1 ∙ ap (λ v. t.Class v node.0) one in
       let form : (e : ClassRef) × (inner : List TType) × (x ≡ t.Class e inner) = above c x i in
       let found : is_sought s (put c node.0 x) ≡ true =
-          ap (λ v. is_sought s (put c node.0 v)) form.2 ∙ sought_put s c node.0 args form.0 form.1 ∙ sym (ap (λ v. is_sought s (put c args v)) form.2) ∙ e in
+      ap (λ v. is_sought s (put c node.0 v)) form.2 ∙ sought_put s c node.0 args form.0 form.1 ∙ sym (ap (λ v. is_sought s (put c args v)) form.2) ∙ e in
       (put c node.0 x, subst (λ v. Direct heads v (put c node.0 x)) (sym is) (of_class c node.0 x i), found)
   class_next above (sought.Variable d m) c args x z s i h g e =
       let no : false ≡ true = sym (class_sought (sought.Variable d m) c args) ∙ h in absurd (cc)

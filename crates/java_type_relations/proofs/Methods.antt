@@ -6,8 +6,8 @@ use Rattle.java_typed.specs.declared.types.TType.{TType}
 use Rattle.java_type_relations.specs.declared.heads.Heads.{Heads}
 use Rattle.java_type_relations.specs.Above.{IsIn}
 use Rattle.java_type_relations.specs.Subtypes.{is_subtype}
-use Rattle.java_type_relations.specs.Contexts.{is_boxed, is_loose, is_unboxed}
-use Rattle.java_type_relations.specs.Applicable.{all_go, applicable, or_later, takes_loosely, takes_strictly}
+use Rattle.java_type_relations.specs.Contexts.{is_boxed, is_unboxed}
+use Rattle.java_type_relations.specs.Applicable.{applicable, or_later, takes_loosely, takes_strictly}
 use Rattle.java_type_relations.proofs.Sameness.{and_holds, and_tells}
 
 abbrev Params : Type 0
@@ -65,7 +65,7 @@ module _ (heads : Heads) where
   strict_first args methods m n j i h =
       let strict : List Params = filter (takes_strictly heads args) methods in
       (in_filter (takes_strictly heads args) methods m
-        (first_phase (filter (takes_strictly heads args) methods) (filter (takes_loosely heads args) methods) m n (kept (takes_strictly heads args) methods n i h) j)).1
+      (first_phase (filter (takes_strictly heads args) methods) (filter (takes_loosely heads args) methods) m n (kept (takes_strictly heads args) methods n i h) j)).1
 
   pub takes : (args : List TType) (methods : List Params) (m : Params) → IsIn m (applicable heads args methods) → IsIn m methods × (takes_loosely heads args m ≡ true)
   takes args methods m j =

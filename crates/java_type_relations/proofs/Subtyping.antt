@@ -1,5 +1,5 @@
 -- Subtypes of classes are what stands below them.
-use Rattle.std.proofs.Common.{◌≡◌, ◌↔◌, ◌<◌, ◌≤◌, ◌+◌, ℕ, zero, suc, true, List, Option, Some, None, sym, ap, subst, ◌∙◌, arith}
+use Rattle.std.proofs.Common.{◌≡◌, ◌↔◌, ◌<◌, ◌≤◌, ◌+◌, ℕ, true, List, Option, Some, None, sym, ap, ◌∙◌, arith}
 use Rattle.java_typed.specs.declared.types.ClassRef.{ClassRef}
 use Rattle.java_typed.specs.declared.types.TType.{TType, out-TType}
 use Rattle.java_typed.specs.declared.types.TType.TheOpen.{TType-F}

@@ -1,9 +1,8 @@
 -- The conversions of casts (JLS 5.5).
-use Rattle.std.specs.Prelude.{ℕ, zero, suc, Bool, true, false, not, ◌&&◌, ◌||◌, if◌then◌else◌, List, [], ◌∷◌, Option, Some, None, is_some}
+use Rattle.std.specs.Prelude.{ℕ, zero, suc, Bool, true, false, not, ◌||◌, if◌then◌else◌, List, [], ◌∷◌, Option, Some, None, is_some}
 use Rattle.java_typed.specs.declared.types.ClassRef.{ClassRef}
 use Rattle.java_typed.specs.declared.types.TType.{TType, out-TType}
 use Rattle.java_typed.specs.declared.types.TType.TheOpen.{TType-F}
-use Rattle.java_typed.specs.declared.types.TType.TheVariants as t
 use Rattle.java_type_relations.specs.declared.heads.ClassForm.{ClassForm}
 use Rattle.java_type_relations.specs.declared.heads.ClassForm.TheVariants as form
 use Rattle.java_type_relations.specs.declared.heads.Heads.{Heads}

@@ -1,5 +1,5 @@
 -- The conversions of assignments and of arguments (JLS 5.2, 5.3).
-use Rattle.std.specs.Prelude.{Bool, true, false, ◌||◌, [], Option, Some, None}
+use Rattle.std.specs.Prelude.{Bool, false, ◌||◌, [], Option, Some, None}
 use Rattle.j2k_base.specs.declared.constants.Const.{Const}
 use Rattle.java_typed.specs.declared.types.ClassRef.{ClassRef}
 use Rattle.java_typed.specs.declared.types.TType.{TType}

@@ -1,10 +1,9 @@
 -- Supertypes with their arguments (JLS 4.10.2).
-use Rattle.std.specs.Prelude.{ℕ, zero, suc, Bool, true, false, ◌&&◌, ◌==◌, if◌then◌else◌, List, [], ◌∷◌, ◌++◌, Option, Some, None, find}
+use Rattle.std.specs.Prelude.{ℕ, zero, suc, Bool, false, ◌&&◌, ◌==◌, if◌then◌else◌, List, [], ◌∷◌, ◌++◌, Option, Some, None, find}
 use Rattle.std.specs.List.{list_any}
 use Rattle.java_typed.specs.declared.types.ClassRef.{ClassRef}
 use Rattle.java_typed.specs.declared.types.TType.{TType, out-TType}
 use Rattle.java_typed.specs.declared.types.TType.TheOpen.{TType-F}
-use Rattle.java_typed.specs.declared.types.TType.TheVariants as t
 use Rattle.java_type_relations.specs.declared.heads.Heads.{Heads}
 use Rattle.java_type_relations.specs.declared.supers.Sought.{Sought}
 use Rattle.java_type_relations.specs.declared.supers.Sought.TheVariants as sought

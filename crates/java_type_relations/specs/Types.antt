@@ -1,5 +1,5 @@
 -- Types as values.
-use Rattle.std.specs.Prelude.{ℕ, Bool, true, false, ◌&&◌, ◌==◌, if◌then◌else◌, List, [], ◌∷◌, slice_get, unwrap_or, map}
+use Rattle.std.specs.Prelude.{ℕ, Bool, true, false, ◌&&◌, ◌==◌, if◌then◌else◌, List, [], ◌∷◌, slice_get, unwrap_or}
 use Rattle.j2k_base.specs.declared.constants.Kind.{Kind}
 use Rattle.j2k_base.specs.declared.constants.Kind.TheVariants as kind
 use Rattle.java_typed.specs.declared.types.ClassRef.{ClassRef}
