@@ -22,14 +22,19 @@ fn parameters(alloc: Global, own: ClassRef, places: &[u32]) -> Result<TTypes, No
     Ok(found)
 }
 
-/// The bounds of type parameters that have none in the text (JLS 4.4).
+/// The bound of the type parameter at a place: none is written in the library (JLS 4.4).
+fn bound(alloc: Global, _place: u32) -> TType
+    ensures { result ≡ s.bound_at _place }
+{
+    TType::Class(ClassRef::Library(0), Items::new(alloc))
+}
+
 fn bounds(alloc: Global, places: &[u32]) -> Result<TTypes, NoMemory>
     ensures { IfOk result (λ r. r ≡ map s.bound_at places.now) }
 {
     let mut found = Items::new(alloc);
-    for _place in places {
-        let object = TType::Class(ClassRef::Library(0), Items::new(alloc));
-        found.push(object)?;
+    for place in places {
+        found.push(bound(alloc, *place))?;
     }
     Ok(found)
 }
