@@ -6,4 +6,5 @@ mod Found
 mod Subtyping
 mod Methods
 mod Cycles
+mod Conversions
 pub mod LawsToCite

@@ -1,6 +1,6 @@
 //! What types, supertypes and the choice of methods promise.
 
-ghost use Rattle.std.specs.Prelude.{◌≡◌, ◌↔◌, ◌<◌, ℕ, true, List, Some, length};
+ghost use Rattle.std.specs.Prelude.{◌≡◌, ◌↔◌, ◌<◌, ℕ, true, false, List, Some, length};
 ghost use Rattle.java_typed.specs.declared.types.ClassRef.{ClassRef};
 ghost use Rattle.java_typed.specs.declared.types.TType.{TType};
 ghost use Rattle.java_typed.specs.declared.types.TType.TheVariants as t;
@@ -10,6 +10,7 @@ ghost use Rattle.java_type_relations.specs.Types.{same};
 ghost use Rattle.java_type_relations.specs.Supers.{is_sought, supertype};
 ghost use Rattle.java_type_relations.specs.Above.{Above, HasClassesAbove, HasHeights, HasOneOfEach, IsAcyclic, IsBounded, IsIn, nodes};
 ghost use Rattle.java_type_relations.specs.Subtypes.{is_subtype};
+ghost use Rattle.java_type_relations.specs.Contexts.{is_boxed, is_unboxed};
 ghost use Rattle.java_type_relations.specs.Applicable.{applicable, takes_loosely, takes_strictly};
 
 /// Two types are found to be the same exactly where they are one.
@@ -39,6 +40,12 @@ pub fn subtypes_stand_below()
 pub fn walks_are_long_enough()
     ensures acyclic { (heads : Heads) → IsAcyclic heads → length (nodes heads) < heads.steps → IsBounded heads }
     ensures heights { (heads : Heads) (height : TType → ℕ) → HasHeights heads height → IsBounded heads }
+{}
+
+/// A type goes to another by one of subtyping, unboxing and boxing at most (JLS 5.3): what is below Object isn't boxed.
+pub fn one_conversion()
+    ensures subtyping { (heads : Heads) (a b : TType) → is_subtype heads a b ≡ true → (is_unboxed a b ≡ false) × (is_boxed heads a b ≡ false) }
+    ensures unboxing { (heads : Heads) (a b : TType) → is_unboxed a b ≡ true → is_boxed heads a b ≡ false }
 {}
 
 /// An applicable method takes the arguments, and by subtyping alone where any of the methods does (JLS 15.12.2.2, 15.12.2.3).
