@@ -179,7 +179,7 @@ statements_more (x ∷ xs) d found s b r new good readable h =
 abbrev pub inside : List (Piece KStmt) → Roles → Letters
 inside xs r = relaxed (L gap.Plain (lines_of xs ++ closing r))
 
-closed_inside : (r : Roles) → relaxed (L gap.Plain (closing r)) ≡ L gap.Plain (closing r)
+pub closed_inside : (r : Roles) → relaxed (L gap.Plain (closing r)) ≡ L gap.Plain (closing r)
 unfolding letters tokens mark_kind
 closed_inside r = refl
 
@@ -200,7 +200,7 @@ statements_read (x ∷ xs) s b r new good readable h =
 pub plain_curly : (ls : Letters) → stands is_arrow ls ≡ false → names_follow false ls ≡ false → curly_kind ls ≡ k.OpenCurly
 plain_curly ls arrow names = ap (λ z. if z then k.OpenParameters else (if names_follow false ls then k.OpenParameters else k.OpenCurly)) arrow ∙ ap (λ z. if z then k.OpenParameters else k.OpenCurly) names
 
-closed_curly : (r : Roles) → curly_kind (L gap.Plain (closing r)) ≡ k.OpenCurly
+pub closed_curly : (r : Roles) → curly_kind (L gap.Plain (closing r)) ≡ k.OpenCurly
 unfolding letters tokens mark_kind names_follow accepts
 closed_curly r = refl
 

@@ -43,7 +43,7 @@ use Rattle.kotlin_canon.proofs.Names.{L, Free, name_made, takes_name, takes_gene
 use Rattle.kotlin_canon.proofs.Firsts.{Stops, Scans, Unnamed, starts, begins_keyword, begins_literal, begins_name, relaxed_plain, scan_name, unnamed_name}
 use Rattle.kotlin_canon.proofs.Types.{both, types_good, types_shown, pass_arguments, arguments_read}
 use Rattle.kotlin_canon.proofs.Levels.{After, Level, left, top, pending, Written, Whole, plain_front}
-use Rattle.kotlin_canon.proofs.Exprs.{Layer, bare, Good, Bare, bare_post, round_written, begins_round, unnamed_round, scans_round, AllRead, round_args, listed_exprs}
+use Rattle.kotlin_canon.proofs.Expressions.{Layer, bare, Good, Bare, bare_post, round_written, begins_round, unnamed_round, scans_round, AllRead, round_args, listed_exprs}
 use Rattle.kotlin_canon.proofs.Steps.{Der, way, take, take_blank, act, Fits}
 use Rattle.kotlin_canon.proofs.Acts.{place, tok, nm, expr, args, acts_Literal, acts_Name, acts_This, acts_Call, acts_GenericCall, acts_SuperCall, acts_Field, acts_Method, acts_GenericMethod, acts_Element, acts_Postfix}
 

@@ -9,7 +9,7 @@ use Rattle.kotlin_tree.specs.declared.statements.KStmt.{KStmt}
 use Rattle.kotlin_tree.specs.declared.statements.KBranch.{KBranch, roll-KBranch}
 use Rattle.kotlin_tree.specs.declared.statements.KCatch.{KCatch, roll-KCatch}
 use Rattle.kotlin_canon.specs.Canonical.{Piece, Operand, operand_by, statement_piece, choice_piece, branch_piece, catch_piece, operand, statement, choice_shown, branch_shown, catch_shown}
-use Rattle.kotlin_canon.proofs.Exprs.{Good, good_of, AllRead}
+use Rattle.kotlin_canon.proofs.Expressions.{Good, good_of, AllRead}
 use Rattle.kotlin_canon.proofs.Forms.{literal_bare, name_bare, this_bare, paren_bare, call_bare, super_bare, field_bare, method_bare, element_bare, postfix_bare}
 use Rattle.kotlin_canon.proofs.Operators.{prefix_bare, as_bare, is_bare, binary_bare}
 use Rattle.kotlin_canon.proofs.Values.{if_bare, run_bare, class_bare}

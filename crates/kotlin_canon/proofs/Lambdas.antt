@@ -50,7 +50,7 @@ use Rattle.kotlin_canon.proofs.Names.{L, Free, Calm, is_run, not_run, gap_plain,
 use Rattle.kotlin_canon.proofs.Firsts.{begins_name, relaxed_plain}
 use Rattle.kotlin_canon.proofs.Types.{both, not_true, Tight, path, type_good, type_shown, types_good, AllGood, is_open, asked_plain, asked_applied, piece_at, arguments_read, pass_arguments, question_roles, less}
 use Rattle.kotlin_canon.proofs.Levels.{Level, top, plain_front}
-use Rattle.kotlin_canon.proofs.Exprs.{Layer, Bare, bare_post}
+use Rattle.kotlin_canon.proofs.Expressions.{Layer, Bare, bare_post}
 use Rattle.kotlin_canon.proofs.Blocks.{AllStand, block_curly, closing, statements_read, takes_curly}
 use Rattle.kotlin_canon.proofs.Values.{chain_tree, chain_depth, chain_more, chain_name, chain_dots, chain_field, dots_read, free_path, calm_here}
 use Rattle.kotlin_canon.proofs.Steps.{Der, way, take, take_blank, act, Fits}
@@ -62,7 +62,7 @@ use Rattle.kotlin_canon.proofs.Acts.{place, nm, expr, kind, lnames, names_by, do
 abbrev brace : List KName → Roles → Roles
 brace names z = Role.Fixed g.Blank ∷ Role.Fixed (g.Mark m.OpenCurly) ∷ (lambda_names names ++ (Role.Fixed g.Deeper ∷ z))
 
-curly_facts : (c d : Bool) (ls : Letters) → (let u = letter_by (if c then k.OpenParameters else (if d then k.OpenParameters else k.OpenCurly)) (token (q.Mark m.OpenCurly) gap.Plain) ∷ ls in
+pub curly_facts : (c d : Bool) (ls : Letters) → (let u = letter_by (if c then k.OpenParameters else (if d then k.OpenParameters else k.OpenCurly)) (token (q.Mark m.OpenCurly) gap.Plain) ∷ ls in
     (stands is_less u ≡ false) × (stands is_at u ≡ false) × (names_follow true u ≡ false) × (opens u ≡ true) × ((spot : Spot) (n : ℕ) → is_open spot ≡ true → arguments_follow spot n u ≡ false))
 unfolding names_follow arguments_follow
 curly_facts true d ls = (refl, refl, refl, refl, λ spot n is. curly_spot spot n is)

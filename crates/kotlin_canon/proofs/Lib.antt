@@ -1,13 +1,17 @@
 mod Acts
 mod Blocks
+mod Classes
 mod Derived
-mod Exprs
+mod Expressions
 mod Firsts
 mod Forms
 mod Induction
 mod Lambdas
 pub mod LawsToCite
 mod Levels
+mod MemberActs
+mod Members
+mod Modifiers
 mod Names
 mod Operators
 mod Shown

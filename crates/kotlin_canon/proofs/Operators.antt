@@ -44,7 +44,7 @@ use Rattle.kotlin_canon.proofs.Names.{L, named_plain}
 use Rattle.kotlin_canon.proofs.Firsts.{First, Begins, Stops, Scans, Unnamed, starts, begins_mark, begins_more, relaxed_plain, first_less, first_at}
 use Rattle.kotlin_canon.proofs.Types.{both, type_good, type_shown, Tight}
 use Rattle.kotlin_canon.proofs.Levels.{quiet, After, after_letter, tight_after, Level, number, form_at, Front, left, top, pending, Written, from_level, whole_of, stated_of, operand_of, may_compare, is_greater_neighbor}
-use Rattle.kotlin_canon.proofs.Exprs.{Layer, bare, Good, Bare, not_looser}
+use Rattle.kotlin_canon.proofs.Expressions.{Layer, bare, Good, Bare, not_looser}
 use Rattle.kotlin_canon.proofs.Forms.{if_false}
 use Rattle.kotlin_canon.proofs.Steps.{Der, way, take_blank, act, Fits}
 use Rattle.kotlin_canon.proofs.Acts.{place, expr, kind, acts_Prefix, acts_Binary, acts_As, acts_Is}

@@ -56,7 +56,7 @@ use Rattle.kotlin_canon.proofs.Names.{L, Free, takes_name, takes_label, takes_ta
 use Rattle.kotlin_canon.proofs.Firsts.{First, Begins, Unnamed, starts, begins_name, begins_keyword, begins_word, begins_more, relaxed_plain, unnamed_name, first_arrow, first_less, first_at, first_curly}
 use Rattle.kotlin_canon.proofs.Types.{both, type_good, type_shown, Tight}
 use Rattle.kotlin_canon.proofs.Levels.{quiet, whole_of, After, after_letter, tight_after, Level, Front}
-use Rattle.kotlin_canon.proofs.Exprs.{Good, close_round, after_round}
+use Rattle.kotlin_canon.proofs.Expressions.{Good, close_round, after_round}
 use Rattle.kotlin_canon.proofs.Forms.{at_post}
 use Rattle.kotlin_canon.proofs.Blocks.{Behind, Stands, AllStand, block_read, block_curly}
 use Rattle.kotlin_canon.proofs.Steps.{Der, way, take, take_blank, act, Fits}
@@ -87,7 +87,7 @@ simple x no_if begins unnamed reads = record {
 
 -- ---- comments
 
-comments_line : (xs : List (List ℕ)) (z : Roles) → L gap.Line (comment_roles xs ++ z) ≡ L gap.Line z
+pub comments_line : (xs : List (List ℕ)) (z : Roles) → L gap.Line (comment_roles xs ++ z) ≡ L gap.Line z
 unfolding tokens
 comments_line [] z = refl
 comments_line (x ∷ xs) z = comments_line xs z
@@ -188,7 +188,7 @@ declared_stands x = simple (statement_piece (KStmt-F.Declared x)) refl
     (λ is s b r new behind h. let halves = both (type_piece x.kind).readable (fits (depth_of (type_piece x.kind))) is in
     way w.StatementLocal (declared_read x _ b r new halves.0 (tight_behind r behind) (way w.LocalNone (act (acts_Unset (depth_of (type_piece x.kind)) (declared_tree x) b halves.1) h))))
 
-tight_assign : (r : Roles) → Tight (fixed assigns ++ r)
+pub tight_assign : (r : Roles) → Tight (fixed assigns ++ r)
 unfolding letters tokens mark_kind
 tight_assign r = (refl, refl)
 

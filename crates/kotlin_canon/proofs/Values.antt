@@ -48,7 +48,7 @@ use Rattle.kotlin_canon.proofs.Names.{L, Free, Calm, is_run, name_made, takes_na
 use Rattle.kotlin_canon.proofs.Firsts.{First, Begins, Stops, begins_name, begins_word, relaxed_plain, first_arrow, scan_name, unnamed_name, word_starts}
 use Rattle.kotlin_canon.proofs.Types.{both, not_true, Tight, path}
 use Rattle.kotlin_canon.proofs.Levels.{quiet, After, after_letter, tight_after, Level, Written, Whole, Stated, plain_front}
-use Rattle.kotlin_canon.proofs.Exprs.{Layer, bare, Good, Bare, bare_post, not_looser}
+use Rattle.kotlin_canon.proofs.Expressions.{Layer, bare, Good, Bare, bare_post, not_looser}
 use Rattle.kotlin_canon.proofs.Operators.{has_level, contradict, tight_free}
 use Rattle.kotlin_canon.proofs.Blocks.{Behind, AllStand, plain_curly, relaxed_here, ends_semicolon, no_names_here, no_arrow_here, after_semicolon, named_semicolon}
 use Rattle.kotlin_canon.proofs.Statements.{head, head_apart, if_cond, takes_else, blocked, if_begins}

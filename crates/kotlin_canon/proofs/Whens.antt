@@ -45,7 +45,7 @@ use Rattle.kotlin_canon.proofs.Names.{L, Free, takes_name}
 use Rattle.kotlin_canon.proofs.Firsts.{First, Begins, Scans, Unnamed, starts, begins_keyword, begins_more, relaxed_plain, relaxed_line, takes_line}
 use Rattle.kotlin_canon.proofs.Types.{both, Tight}
 use Rattle.kotlin_canon.proofs.Levels.{After, after_first, Level, Front, left, top, pending}
-use Rattle.kotlin_canon.proofs.Exprs.{Layer, Good, Bare, bare_post, AllRead, close_round, exprs_more, after_more, more_exprs, listed_exprs}
+use Rattle.kotlin_canon.proofs.Expressions.{Layer, Good, Bare, bare_post, AllRead, close_round, exprs_more, after_more, more_exprs, listed_exprs}
 use Rattle.kotlin_canon.proofs.Blocks.{Behind, Stands, AllStand, block_read, block_curly, first_named, closing, after_closing}
 use Rattle.kotlin_canon.proofs.Statements.{head, head_apart, condition, blocked, typed, Catches, simple}
 use Rattle.kotlin_canon.proofs.Steps.{Der, way, take, take_blank, act, Fits}
