@@ -1,0 +1,22 @@
+mod Acts
+mod Blocks
+mod Classes
+mod Derived
+mod Expressions
+mod Firsts
+mod Forms
+mod Induction
+mod Lambdas
+pub mod LawsToCite
+mod Levels
+mod MemberActs
+mod Members
+mod Modifiers
+mod Names
+mod Operators
+mod Shown
+mod Statements
+mod Steps
+mod Types
+mod Values
+mod Whens

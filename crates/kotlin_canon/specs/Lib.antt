@@ -1,0 +1,4 @@
+pub mod Canonical
+pub mod Derived
+pub mod Members
+pub mod Tokens
