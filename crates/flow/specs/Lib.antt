@@ -1,0 +1,5 @@
+pub mod Acts
+pub mod Flows
+pub mod Forms
+pub mod Analyses
+pub mod Runs
