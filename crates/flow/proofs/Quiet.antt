@@ -17,6 +17,8 @@ module _ {E T : Type 0} (k : Analysis E) (K : IsSound k) where
     pub quiet : {x : Act E T} {es : Events E} {e : End T} → Runs x es e → takes k x ≡ false → Stays k es
     quiet Runs.skip q = λ b n. n
     quiet (Runs.does e) q = λ b n. K.stays e b q n
+    quiet (Runs.asks c es v p) q = test_quiet p q
+    quiet (Runs.asks_ends c es j p) q = test_quiet p q
     quiet (Runs.jumps t) q = λ b n. n
     quiet (Runs.then_ x y es fs e p r) q = chained k es fs (quiet p (none_left _ _ q)) (quiet r (none_right _ _ q))
     quiet (Runs.then_ends x y es j p) q = quiet p (none_left _ _ q)

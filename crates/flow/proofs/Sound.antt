@@ -67,6 +67,9 @@ module _ {E T : Type 0} (same : T → T → Bool) (S : TellsApart same) (k : Ana
     pub sound : {x : Act E T} {es : Events E} {e : End T} → Runs x es e → (a b : Bool) → Below a b → Good (jumps same x) (flow same k x a) b es e
     sound Runs.skip a b h = (ended h, λ n. tt)
     sound (Runs.does e) a b h = (ended (K.grows e a b h), λ n. (allowed e a b (not_told (k.is_fault e a) e n) h, tt))
+    sound (Runs.asks c es true p) a b h = let i = test_sound p k.counts a b h in (ended (λ n. at_true i.0 (and_left _ _ n)), i.1)
+    sound (Runs.asks c es false p) a b h = let i = test_sound p k.counts a b h in (ended (λ n. at_false i.0 (and_right _ _ n)), i.1)
+    sound (Runs.asks_ends c es j p) a b h = let i = test_sound p k.counts a b h in (left (at_out i.0), i.1)
     sound (Runs.jumps t) a b h = (left (jumped t (S.self t) (jump_here (same t t) a b (S.self t) h)), λ n. tt)
     sound (Runs.then_ x y es fs e p q) a b h =
         let i = sound p a b h in

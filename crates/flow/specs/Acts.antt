@@ -6,6 +6,8 @@ mutual
   pub data Act (E T : Type 0) : Type 0 where
     Skip : Act E T
     Does : E → Act E T
+    -- a test, whichever way it goes
+    Asks : Test E T → Act E T
     Jumps : T → Act E T
     -- an exception is thrown
     Throws : Act E T

@@ -1,7 +1,7 @@
 -- Definite assignment (A), definite unassignment (U) and reachability as three analyses of one kind.
 use Rattle.std.specs.Prelude.{Bool, true, false, not, ◌&&◌, ◌||◌, List, [], ◌∷◌, ◌++◌, if◌then◌else◌}
-use Rattle.flow.specs.Acts.{Act, Test, Groups, Skip, Does, Jumps, Throws, Then, If, Forever, Block, Switch, Try, Finally, Later, Constant, Value, And, Or, Not, Choose, Done, Group}
-use Rattle.flow.specs.Flows.{Flow, Sides, Part, Condition, nowhere, skip, stop, after, seq, choice, without_default, unknown, constant, both, one_of, negated, chosen, leave, block}
+use Rattle.flow.specs.Acts.{Act, Test, Groups, Skip, Does, Asks, Jumps, Throws, Then, If, Forever, Block, Switch, Try, Finally, Later, Constant, Value, And, Or, Not, Choose, Done, Group}
+use Rattle.flow.specs.Flows.{Flow, Sides, Part, Condition, nowhere, skip, stop, after, seq, choice, without_default, asked, unknown, constant, both, one_of, negated, chosen, leave, block}
 
 -- What an analysis of one state asks.
 pub record Analysis (E : Type 0) : Type 0 where
@@ -26,6 +26,7 @@ module _ {E T : Type 0} (same : T → T → Bool) where
     pub jumps : Act E T → T → Bool
     jumps Skip t = false
     jumps (Does e) t = false
+    jumps (Asks c) t = test_jumps c t
     jumps (Jumps s) t = same s t
     jumps Throws t = false
     jumps (Then x y) t = jumps x t || jumps y t
@@ -55,6 +56,7 @@ module _ {E T : Type 0} (k : Analysis E) where
     pub takes : Act E T → Bool
     takes Skip = false
     takes (Does e) = k.takes e
+    takes (Asks c) = test_takes c
     takes (Jumps t) = false
     takes Throws = false
     takes (Then x y) = takes x || takes y
@@ -113,6 +115,7 @@ module _ {E T : Type 0} (same : T → T → Bool) (k : Analysis E) where
     pub flow : Act E T → Part E T
     flow Skip a = skip a
     flow (Does e) a = event e a
+    flow (Asks c) a = asked (sides c k.counts a)
     flow (Jumps t) a = leave same t a
     flow Throws a = stop a
     flow (Then x y) a = seq (flow x) (flow y) a

@@ -54,6 +54,10 @@ module _ {E T : Type 0} where
 
   -- ---- tests
 
+  -- whichever way it goes
+  abbrev pub asked : Sides E T → Flow E T
+  asked s = record { end = s.yes && s.no; at = s.at; faults = s.faults }
+
   -- of its value nothing is known
   abbrev pub unknown : Flow E T → Sides E T
   unknown f = record { yes = f.end; no = f.end; at = f.at; faults = f.faults }

@@ -1,6 +1,6 @@
 -- The runs of a text: what a run does, in order, and how it ends. Of flows and states they know nothing.
 use Rattle.std.specs.Prelude.{◌≡◌, ℕ, zero, suc, ◌+◌, Bool, true, false, not, ◌&&◌, ◌||◌}
-use Rattle.flow.specs.Acts.{Act, Test, Groups, Skip, Does, Jumps, Throws, Then, If, Forever, Block, Switch, Try, Finally, Later, Constant, Value, And, Or, Not, Choose, Done, Group}
+use Rattle.flow.specs.Acts.{Act, Test, Groups, Skip, Does, Asks, Jumps, Throws, Then, If, Forever, Block, Switch, Try, Finally, Later, Constant, Value, And, Or, Not, Choose, Done, Group}
 use Rattle.flow.specs.Analyses.{Use, Reads, Assigns, Reaches}
 
 -- the events of a run, and those of each run of a part that was made to run later
@@ -33,6 +33,8 @@ module _ {E T : Type 0} where
     pub data Runs : Act E T → Events E → End T → Type 0 where
       skip : Runs Skip Nothing Normal
       does : (e : E) → Runs (Does e) (Did e Nothing) Normal
+      asks : (c : Test E T) (es : Events E) (b : Bool) → Tests c es (Is b) → Runs (Asks c) es Normal
+      asks_ends : (c : Test E T) (es : Events E) (j : Exit T) → Tests c es (Out j) → Runs (Asks c) es (By j)
       jumps : (t : T) → Runs (Jumps t) Nothing (By (Jumped t))
       then_ : (x y : Act E T) (es fs : Events E) (e : End T) → Runs x es Normal → Runs y fs e → Runs (Then x y) (append es fs) e
       then_ends : (x y : Act E T) (es : Events E) (j : Exit T) → Runs x es (By j) → Runs (Then x y) es (By j)
