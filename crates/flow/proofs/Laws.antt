@@ -63,7 +63,7 @@ module _ {V P : Type 0} where
     stays_assigned (Did e es) b h = stays_assigned es (assigned_behind is e b) (assigned_stays e b h)
     stays_assigned (Made gs es) b h = stays_assigned es b h
 
-    assignment_sound : IsSound (assignment {P = P} is)
+    pub assignment_sound : IsSound (assignment {P = P} is)
     assignment_sound = record { grows = assigned_grows; stays = λ e b q. assigned_stays e b; joins = λ p q b es h m. joined_or p q b _ h (stays_assigned es b) m; delays = λ a b h. h }
 
     FindsIt : Use V P → Bool → Type 0
@@ -103,7 +103,7 @@ module _ {V P : Type 0} where
     unassigned_stays (Assigns v p) b q h = other_stays (is v) b q h
     unassigned_stays (Reaches p) b q h = h
 
-    unassignment_sound : IsSound (unassignment {P = P} is)
+    pub unassignment_sound : IsSound (unassignment {P = P} is)
     unassignment_sound = record { grows = unassigned_grows; stays = unassigned_stays; joins = λ p q b es h m n. m (and_right p q n); delays = λ a b h n. n }
 
     IsFirst : Use V P → Bool → Type 0

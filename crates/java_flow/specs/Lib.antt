@@ -1,3 +1,5 @@
 pub mod Variables
 pub mod Expressions
 pub mod Statements
+pub mod Faults
+pub mod Scopes

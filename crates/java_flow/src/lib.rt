@@ -1,2 +1,6 @@
 //! What Java's statements do to their variables and where their control goes: definite assignment and reachability.
 #![tactic(auto)]
+
+mod laws;
+
+pub use laws::{assigned_once, control_comes, reads_are_assigned};

@@ -1,0 +1,34 @@
+-- The laws of flows at Java's texts.
+use Rattle.std.proofs.Common.{◌≡◌, ◌≤◌, Bool, true, false, not, List, [], refl, ap, sym, ◌∙◌}
+use Rattle.java_tree.specs.declared.tokens.Position.{Position}
+use Rattle.flow.specs.Analyses.{flow, unreachable}
+use Rattle.flow.specs.Runs.{Events, End, FindsAssigned, NoneLater, Normal, ReachesNone, Runs, times}
+use Rattle.flow.proofs.LawsToCite.{unreachable_is_not_reached, ends_where_it_can}
+use Rattle.flow.proofs.LawsToCite as l
+use Rattle.java_flow.specs.Variables.{JavaAct, JavaUse, Target, Variable, same_target}
+use Rattle.java_flow.specs.Faults.{assigned_again, can_end, reachable_among, unassigned_reads}
+use Rattle.java_flow.proofs.Targets.{tells_apart}
+
+pub reads_assigned : (x : JavaAct) (is : Variable → Bool) (a : Bool) (es : Events JavaUse) (e : End Target) → Runs x es e → unassigned_reads is a x ≡ [] → FindsAssigned is a es
+unfolding unassigned_reads
+reads_assigned x is a es e p n = l.reads_are_assigned is same_target tells_apart x es e p a n
+
+pub once : (x : JavaAct) (is : Variable → Bool) (es : Events JavaUse) (e : End Target) → Runs x es e → assigned_again is true x ≡ [] → times is es ≤ 1
+unfolding assigned_again
+once x is es e p n = l.assigned_once is same_target tells_apart x es e p n
+
+pub none_later : (x : JavaAct) (is : Variable → Bool) (es : Events JavaUse) (e : End Target) → Runs x es e → assigned_again is true x ≡ [] → NoneLater is es
+unfolding assigned_again
+none_later x is es e p n = l.assigned_no_later is same_target tells_apart x es e p n
+
+pub not_reached : (x : JavaAct) (here : Position → Bool) (es : Events JavaUse) (e : End Target) → Runs x es e → reachable_among here x ≡ [] → ReachesNone here es
+unfolding reachable_among
+not_reached x here es e p n = unreachable_is_not_reached here same_target tells_apart x es e p n
+
+true_end : (b : Bool) → not b ≡ false → b ≡ true
+true_end true h = refl
+true_end false h = cc
+
+pub no_end : (x : JavaAct) (es : Events JavaUse) → can_end x ≡ false → Runs x es Normal → ⊥
+unfolding can_end
+no_end x es n p = ends_where_it_can same_target tells_apart (λ q a. a) x es (true_end _ n) p
