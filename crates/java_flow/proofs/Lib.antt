@@ -1,2 +1,4 @@
 pub mod Targets
 pub mod Runs
+pub mod Forms
+pub mod Rows
