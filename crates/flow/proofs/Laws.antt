@@ -2,7 +2,8 @@
 use Rattle.std.proofs.Common.{arith, ◌≡◌, ◌≤◌, ◌+◌, ℕ, Bool, true, false, not, ◌&&◌, ◌||◌, List, [], refl, sym, ap, ◌∙◌, subst}
 use Rattle.flow.specs.Acts.{Act}
 use Rattle.flow.specs.Analyses.{Use, Reads, Assigns, Reaches, Analysis, flow, assignment, unassignment, assigned_behind, reads_unassigned, unassigned_behind, assigns, assigns_again, control, at_place, reachable, unreachable}
-use Rattle.flow.specs.Runs.{Events, Nothing, Did, Made, append, End, Normal, Runs, FindsAssigned, one_if, times, NoneLater, ReachesNone}
+use Rattle.flow.specs.Standing.{one_if}
+use Rattle.flow.specs.Runs.{Events, Nothing, Did, Made, append, End, Normal, Runs, FindsAssigned, times, NoneLater, ReachesNone}
 use Rattle.flow.proofs.States.{Below, and_left, and_right, or_right, behinds, IsSound, Finds, TellsApart, at_end}
 use Rattle.flow.proofs.Sound.{sound}
 

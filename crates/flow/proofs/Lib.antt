@@ -1,7 +1,9 @@
 pub mod States
 pub mod Quiet
 pub mod Sound
+pub mod Rows
 pub mod Laws
+pub mod Places
 pub mod Kept
 pub mod Chains
 pub mod Codes

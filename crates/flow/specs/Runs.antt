@@ -1,6 +1,7 @@
 -- The runs of a text: what a run does, in order, and how it ends. Of flows and states they know nothing.
 use Rattle.std.specs.Prelude.{◌≡◌, ℕ, zero, suc, ◌+◌, Bool, true, false, not, ◌&&◌, ◌||◌}
 use Rattle.flow.specs.Acts.{Act, Test, Groups, Skip, Does, Asks, Jumps, Throws, Then, If, Forever, Block, Switch, Try, Finally, Later, Constant, Value, And, Or, Not, Choose, Done, Group}
+use Rattle.flow.specs.Standing.{one_if}
 use Rattle.flow.specs.Analyses.{Use, Reads, Assigns, Reaches}
 
 -- the events of a run, and those of each run of a part that was made to run later
@@ -88,10 +89,6 @@ module _ {E T : Type 0} where
       further : (x : Act E T) (more : Groups E T) (es : Events E) (e : End T) → Enters more es e → Enters (Group x more) es e
 
 -- ---- what runs are said to do and not to do
-
-abbrev pub one_if : Bool → ℕ
-one_if true = 1
-one_if false = 0
 
 module _ {V P : Type 0} (is : V → Bool) where
   -- Each read of the variable finds it assigned: where `b`, or behind an assignment. A part that runs later finds what was

@@ -1,6 +1,7 @@
 -- The events that stand in a text, in its order.
-use Rattle.std.specs.Prelude.{List, [], ◌∷◌, ◌++◌}
+use Rattle.std.specs.Prelude.{ℕ, ◌+◌, Bool, true, false, List, [], ◌∷◌, ◌++◌}
 use Rattle.flow.specs.Acts.{Act, Test, Groups, Skip, Does, Asks, Jumps, Throws, Then, If, Forever, Block, Switch, Try, Finally, Later, Constant, Value, And, Or, Not, Choose, Done, Group}
+use Rattle.flow.specs.Analyses.{Use, Reads, Assigns, Reaches}
 
 module _ {E T : Type 0} where
   abbrev mutual
@@ -59,3 +60,20 @@ module _ {E T : Type 0} where
     pub groups_stand_later : Groups E T → List E
     groups_stand_later Done = []
     groups_stand_later (Group x more) = stands_later x ++ groups_stand_later more
+
+-- ---- how often
+
+abbrev pub one_if : Bool → ℕ
+one_if true = 1
+one_if false = 0
+
+module _ {V P : Type 0} (here : P → Bool) where
+  abbrev pub hits_of : Use V P → ℕ
+  hits_of (Reads v p) = 0
+  hits_of (Assigns v p) = 0
+  hits_of (Reaches p) = one_if (here p)
+
+  -- how often one of the places is reached among the events
+  abbrev pub hits : List (Use V P) → ℕ
+  hits [] = 0
+  hits (e ∷ more) = hits_of e + hits more

@@ -11,8 +11,8 @@ use Rattle.java_typed.specs.declared.exprs.TExpr.TheVariants as e
 use Rattle.java_typed.specs.declared.statements.TSimple.{TSimple}
 use Rattle.java_typed.specs.declared.statements.TBody.{TBody}
 use Rattle.java_typed.specs.declared.statements.TBody.TheOpen.{TBody-F, TStatement-F, TCaseGroup-F, TCatch-F}
-use Rattle.java_typed.specs.declared.statements.TBody.TheFolds.{map-TStatement}
-use Rattle.java_typed.specs.declared.statements.TCaseGroup.{TCaseGroup, fold-TCaseGroup}
+use Rattle.java_typed.specs.declared.statements.TBody.TheFolds.{map-TStatement, map-TCaseGroup}
+use Rattle.java_typed.specs.declared.statements.TCaseGroup.{TCaseGroup, roll-TCaseGroup, fold-TCaseGroup, fold-roll-TCaseGroup}
 use Rattle.java_typed.specs.declared.statements.TCatch.{TCatch, fold-TCatch}
 use Rattle.java_typed.specs.declared.statements.TStatement.{TStatement, roll-TStatement, fold-roll-TStatement}
 use Rattle.java_typed.specs.declared.statements.TStatement.TheVariants as made
@@ -38,10 +38,10 @@ module _ (bodies : ℕ → JavaAct) where
   said_StaticCall first member at xs r = said_form (TExpr-F.StaticCall first member at xs r) _ (e.rolls-StaticCall first member at xs r)
 
 module _ (inner : ℕ → JavaAct) where
-  pub group : TCaseGroup → CaseGroup
+  unfoldable pub group : TCaseGroup → CaseGroup
   group = fold-TCaseGroup JavaAct Statement CaseGroup JavaAct (body_by inner) (statement_by inner) (group_by inner) (catch_by inner)
 
-  pub catch : TCatch → JavaAct
+  unfoldable pub catch : TCatch → JavaAct
   catch = fold-TCatch JavaAct Statement CaseGroup JavaAct (body_by inner) (statement_by inner) (group_by inner) (catch_by inner)
 
   form : (x : TStatement-F TBody TStatement TCaseGroup TCatch) (y : TStatement) → roll-TStatement x ≡ y →
@@ -67,3 +67,13 @@ module _ (inner : ℕ → JavaAct) where
   pub statement_Try : (at : Position) (xs : List TStatement) (cs : List TCatch) (last : Option Position) (ys : List TStatement) →
       statement inner (made.Try at xs cs last ys) ≡ statement_by inner (TStatement-F.Try at (map (statement inner) xs) (map catch cs) last (map (statement inner) ys))
   statement_Try at xs cs last ys = form (TStatement-F.Try at xs cs last ys) _ (made.rolls-Try at xs cs last ys)
+
+  pub statement_Do : (at : Position) (x : TStatement) (c : TExpr) (bs : List TBody) → statement inner (made.Do at x c bs) ≡ statement_by inner (TStatement-F.Do at (statement inner x) c (map (body inner) bs))
+  statement_Do at x c bs = form (TStatement-F.Do at x c bs) _ (made.rolls-Do at x c bs)
+
+  pub statement_Switch : (at : Position) (x : TExpr) (bs : List TBody) (gs : List TCaseGroup) → statement inner (made.Switch at x bs gs) ≡ statement_by inner (TStatement-F.Switch at x (map (body inner) bs) (map group gs))
+  statement_Switch at x bs gs = form (TStatement-F.Switch at x bs gs) _ (made.rolls-Switch at x bs gs)
+
+  pub group_form : (x : TCaseGroup-F TBody TStatement TCaseGroup TCatch) → group (roll-TCaseGroup x) ≡ group_by inner (map-TCaseGroup TBody TStatement TCaseGroup TCatch JavaAct Statement CaseGroup JavaAct (body inner) (statement inner) group catch x)
+  unfolding statement body group catch
+  group_form x = fold-roll-TCaseGroup JavaAct Statement CaseGroup JavaAct (body_by inner) (statement_by inner) (group_by inner) (catch_by inner) x

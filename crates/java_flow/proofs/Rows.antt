@@ -1,6 +1,6 @@
 -- Worked rows: small texts, and what the definitions say of them.
 use Rattle.std.proofs.Common.{◌≡◌, ℕ, pos, Bool, true, false, List, [], ◌∷◌, Option, Some, None, map, refl, ap, sym, ◌∙◌}
-use Rattle.std.specs.Prelude.{codes}
+use Rattle.std.specs.List.{list_any}
 use Rattle.java_tree.specs.declared.tokens.Position.{Position}
 use Rattle.j2k_base.specs.declared.constants.Kind.TheVariants as kind
 use Rattle.j2k_base.specs.declared.constants.Const.TheVariants as const
@@ -10,15 +10,18 @@ use Rattle.java_typed.specs.declared.types.TType.TheVariants as t
 use Rattle.java_typed.specs.declared.exprs.TExpr.{TExpr}
 use Rattle.java_typed.specs.declared.exprs.TExpr.TheVariants as e
 use Rattle.java_typed.specs.declared.statements.TSimple.TheVariants as simple
+use Rattle.java_typed.specs.declared.statements.TLabel.{TLabel}
+use Rattle.java_typed.specs.declared.statements.TLabel.TheVariants as label
+use Rattle.java_typed.specs.declared.statements.TCaseGroup.{TCaseGroup, roll-TCaseGroup}
 use Rattle.java_typed.specs.declared.statements.TStatement.{TStatement}
 use Rattle.java_typed.specs.declared.statements.TStatement.TheVariants as made
-use Rattle.flow.specs.Acts.{Act, Skip, Then, Jumps, If, Finally}
+use Rattle.flow.specs.Acts.{Act, Skip, Then, Jumps, If, Finally, Block, Switch}
 use Rattle.flow.specs.Analyses.{Reads, Assigns, Reaches}
-use Rattle.java_flow.specs.Variables.{JavaAct, Out, Behind, Local, is_local, reached}
-use Rattle.java_flow.specs.Statements.{Statement, statement, statements, block, nth, looped, round}
+use Rattle.java_flow.specs.Variables.{JavaAct, Out, Behind, Next, Local, is_local, reached}
+use Rattle.java_flow.specs.Statements.{Statement, CaseGroup, statement, statements, groups, any_default, is_default, nth, looped, looped_do, round}
 use Rattle.java_flow.specs.Expressions.{Said, said, done, constant_by, named_by, assign_by}
 use Rattle.java_flow.specs.Faults.{unassigned_reads, assigned_again, unreachable_statements, can_end}
-use Rattle.java_flow.proofs.Forms.{said_Literal, said_Local, said_Assign, statement_Simple, statement_Block, statement_If, statement_IfElse, statement_While, statement_Try}
+use Rattle.java_flow.proofs.Forms.{said_Literal, said_Local, said_Assign, statement_Simple, statement_Block, statement_If, statement_IfElse, statement_While, statement_Try, statement_Do, statement_Switch, group, group_form}
 
 abbrev at : ℕ → Position
 at n = record { offset = n; line = 1; column = n }
@@ -53,6 +56,16 @@ returns n = made.Simple (at n) (simple.Return None) []
 
 abbrev breaks : ℕ → TStatement
 breaks n = made.Simple (at n) (simple.Break None) []
+
+abbrev continues : ℕ → TStatement
+continues n = made.Simple (at n) (simple.Continue None) []
+
+-- `case 1:`
+abbrev case : ℕ → TLabel
+case n = label.Case (at n) (value.Number (const.Int (pos 1))) (e.Literal (value.Number (const.Int (pos 1))) (at n))
+
+abbrev group_of : TLabel → List TStatement → TCaseGroup
+group_of l xs = roll-TCaseGroup (record { labels = l ∷ []; statements = xs })
 
 abbrev nothing : ℕ → JavaAct
 nothing n = Skip
@@ -127,6 +140,28 @@ shown_try n {xs} {ys} {m} {l} h last = record { is = statement_Try nothing (at n
     ∙ ap {B = Statement} (λ (a : JavaAct) (name : Option (List ℕ)). Then (reached (at n)) (Finally a (statements nothing ys))) h.is
     ∙ ap {B = Statement} (λ (a : JavaAct) (name : Option (List ℕ)). Then (reached (at n)) (Finally m a)) last.is }
 
+shown_continues : (n : ℕ) → Shows (continues n) (λ name. Then (reached (at n)) (Jumps Next))
+shown_continues n = record { is = statement_Simple nothing (at n) (simple.Continue None) [] }
+
+shown_do : (n : ℕ) {y : TExpr} {s : TStatement} {v : Said} {f : Statement} → Shows s f → Says y v →
+    Shows (made.Do (at n) s y []) (λ name. Then (reached (at n)) (looped_do (round name f) v.test))
+shown_do n {y} {s} {v} {f} does h = record { is = statement_Do nothing (at n) s y []
+    ∙ ap {B = Statement} (λ (w : Said) (name : Option (List ℕ)). Then (reached (at n)) (looped_do (round name (statement nothing s)) w.test)) h.is
+    ∙ ap {B = Statement} (λ (g : Statement) (name : Option (List ℕ)). Then (reached (at n)) (looped_do (round name g) v.test)) does.is }
+
+record GroupShows (g : TCaseGroup) (h : CaseGroup) : Type 0 where
+  is : group nothing g ≡ h
+
+shown_group : (l : TLabel) {xs : List TStatement} {m : JavaAct} → AllShow xs m → GroupShows (group_of l xs) (record { does = m; has_default = list_any is_default (l ∷ []) })
+shown_group l {xs} h = record { is = group_form nothing (record { labels = l ∷ []; statements = xs })
+    ∙ ap {B = CaseGroup} (λ (a : JavaAct). record { does = a; has_default = list_any is_default (l ∷ []) }) h.is }
+
+shown_switch : (n : ℕ) {y : TExpr} {g : TCaseGroup} {v : Said} {h : CaseGroup} → Says y v → GroupShows g h →
+    Shows (made.Switch (at n) y [] (g ∷ [])) (λ name. Then (reached (at n)) (Then (done v) (Block Behind (Switch (any_default (h ∷ [])) (groups (h ∷ []))))))
+shown_switch n {y} {g} {v} {h} says shows = record { is = statement_Switch nothing (at n) y [] (g ∷ [])
+    ∙ ap {B = Statement} (λ (w : Said) (name : Option (List ℕ)). Then (reached (at n)) (Then (done w) (Block Behind (Switch (any_default (group nothing g ∷ [])) (groups (group nothing g ∷ [])))))) says.is
+    ∙ ap {B = Statement} (λ (k : CaseGroup) (name : Option (List ℕ)). Then (reached (at n)) (Then (done v) (Block Behind (Switch (any_default (k ∷ [])) (groups (k ∷ [])))))) shows.is }
+
 -- what is told of the acts is told of the text
 told : {A : Type 0} (of : JavaAct → A) {xs : List TStatement} {m : JavaAct} {a : A} → AllShow xs m → of m ≡ a → of (statements nothing xs) ≡ a
 told of h is = ap of h.is ∙ is
@@ -152,6 +187,21 @@ after_a_return = told (unassigned_reads (is_local x) false) (then_ (shown_else 1
 in_finally : unassigned_reads (is_local x) false (statements nothing (made.Try (at 1) (sets 2 ∷ []) [] (Some (at 1)) (reads 3 ∷ []) ∷ reads 4 ∷ [])) ≡ Reads (Local x) (at 3) ∷ []
 unfolding unassigned_reads
 in_finally = told (unassigned_reads (is_local x) false) (then_ (shown_try 1 (then_ (shown_sets 2) end_of) (then_ (shown_reads 3) end_of)) (then_ (shown_reads 4) end_of)) refl
+
+-- `do { if (c) continue; x = 1; } while (x);`: `continue` comes to the test without it
+continued_to_a_test : unassigned_reads (is_local x) false (statements nothing (made.Do (at 1) (made.Block (at 2) (made.If (at 3) (test 4) [] (continues 5) ∷ sets 6 ∷ []) (at 7)) (e.Local x (at 8) t.Boolean) [] ∷ [])) ≡ Reads (Local x) (at 8) ∷ []
+unfolding unassigned_reads
+continued_to_a_test = told (unassigned_reads (is_local x) false) (then_ (shown_do 1 (shown_block 2 7 (then_ (shown_if 3 (test_said 4) (shown_continues 5)) (then_ (shown_sets 6) end_of))) (record { is = said_Local (nth []) x (at 8) t.Boolean })) end_of) refl
+
+-- `switch (c) { case 1: x = 1; } x;`: at fault, where no group may be chosen
+without_default : unassigned_reads (is_local x) false (statements nothing (made.Switch (at 1) (test 2) [] (group_of (case 3) (sets 4 ∷ []) ∷ []) ∷ reads 5 ∷ [])) ≡ Reads (Local x) (at 5) ∷ []
+unfolding unassigned_reads
+without_default = told (unassigned_reads (is_local x) false) (then_ (shown_switch 1 (test_said 2) (shown_group (case 3) (then_ (shown_sets 4) end_of))) (then_ (shown_reads 5) end_of)) refl
+
+-- `switch (c) { default: x = 1; } x;`: it isn't
+with_default : unassigned_reads (is_local x) false (statements nothing (made.Switch (at 1) (test 2) [] (group_of (label.Default (at 3)) (sets 4 ∷ []) ∷ []) ∷ reads 5 ∷ [])) ≡ []
+unfolding unassigned_reads
+with_default = told (unassigned_reads (is_local x) false) (then_ (shown_switch 1 (test_said 2) (shown_group (label.Default (at 3)) (then_ (shown_sets 4) end_of))) (then_ (shown_reads 5) end_of)) refl
 
 -- ---- definite unassignment
 

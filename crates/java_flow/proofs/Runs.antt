@@ -2,11 +2,12 @@
 use Rattle.std.proofs.Common.{◌≡◌, ◌≤◌, Bool, true, false, not, List, [], refl, ap, sym, ◌∙◌}
 use Rattle.java_tree.specs.declared.tokens.Position.{Position}
 use Rattle.flow.specs.Analyses.{flow, unreachable}
+use Rattle.flow.specs.Standing.{hits, stands}
 use Rattle.flow.specs.Runs.{Events, End, FindsAssigned, NoneLater, Normal, ReachesNone, Runs, times}
-use Rattle.flow.proofs.LawsToCite.{unreachable_is_not_reached, ends_where_it_can}
+use Rattle.flow.proofs.LawsToCite.{unreachable_is_not_reached, not_reachable, ends_where_it_can}
 use Rattle.flow.proofs.LawsToCite as l
 use Rattle.java_flow.specs.Variables.{JavaAct, JavaUse, Target, Variable, same_target}
-use Rattle.java_flow.specs.Faults.{assigned_again, can_end, reachable_among, unassigned_reads}
+use Rattle.java_flow.specs.Faults.{assigned_again, can_end, unassigned_reads, unreachable_statements}
 use Rattle.java_flow.proofs.Targets.{tells_apart}
 
 pub reads_assigned : (x : JavaAct) (is : Variable → Bool) (a : Bool) (es : Events JavaUse) (e : End Target) → Runs x es e → unassigned_reads is a x ≡ [] → FindsAssigned is a es
@@ -21,9 +22,9 @@ pub none_later : (x : JavaAct) (is : Variable → Bool) (es : Events JavaUse) (e
 unfolding assigned_again
 none_later x is es e p n = l.assigned_no_later is same_target tells_apart x es e p n
 
-pub not_reached : (x : JavaAct) (here : Position → Bool) (es : Events JavaUse) (e : End Target) → Runs x es e → reachable_among here x ≡ [] → ReachesNone here es
-unfolding reachable_among
-not_reached x here es e p n = unreachable_is_not_reached here same_target tells_apart x es e p n
+pub not_reached : (x : JavaAct) (here : Position → Bool) (es : Events JavaUse) (e : End Target) → Runs x es e → hits here (stands x) ≤ 1 → 1 ≤ hits here (unreachable_statements x) → ReachesNone here es
+unfolding unreachable_statements
+not_reached x here es e p once listed = unreachable_is_not_reached here same_target tells_apart x es e p (not_reachable here same_target x false once listed)
 
 true_end : (b : Bool) → not b ≡ false → b ≡ true
 true_end true h = refl

@@ -1,7 +1,7 @@
 -- Which reads, assignments and statements of a text are at fault, and whether it can end.
 use Rattle.std.specs.Prelude.{Bool, true, false, not, List, []}
 use Rattle.java_tree.specs.declared.tokens.Position.{Position}
-use Rattle.flow.specs.Analyses.{flow, assignment, unassignment, unreachable, reachable}
+use Rattle.flow.specs.Analyses.{flow, assignment, unassignment, unreachable}
 use Rattle.java_flow.specs.Variables.{Variable, same_target, JavaUse, JavaAct}
 
 -- the reads that don't find the variable definitely assigned (JLS 16), where it is so before the text
@@ -15,10 +15,6 @@ assigned_again is unassigned x = (flow same_target (unassignment is) x unassigne
 -- the statements where control can't come (JLS 14.21), from a start where it comes
 unfoldable pub unreachable_statements : JavaAct → List JavaUse
 unreachable_statements x = (flow same_target unreachable x false).faults
-
--- those of some statements where it can
-unfoldable pub reachable_among : (Position → Bool) → JavaAct → List JavaUse
-reachable_among here x = (flow same_target (reachable here) x false).faults
 
 -- whether it can complete normally (JLS 14.21)
 unfoldable pub can_end : JavaAct → Bool

@@ -3,3 +3,5 @@ pub mod Expressions
 pub mod Statements
 pub mod Faults
 pub mod Scopes
+pub mod Locals
+pub mod Fields

@@ -1,10 +1,14 @@
 //! What the definitions promise of runs.
 
-ghost use Rattle.std.specs.Prelude.{◌≡◌, ◌≤◌, ℕ, Bool, List, [], true, false};
+ghost use Rattle.std.specs.Prelude.{◌≡◌, ◌≤◌, ℕ, Bool, List, [], map, true, false};
 ghost use Rattle.java_tree.specs.declared.tokens.Position.{Position};
+ghost use Rattle.flow.specs.Standing.{hits, stands};
 ghost use Rattle.flow.specs.Runs.{Events, End, FindsAssigned, NoneLater, Normal, ReachesNone, Runs, times};
 ghost use Rattle.java_flow.specs.Variables.{JavaAct, JavaUse, Target, Variable};
-ghost use Rattle.java_flow.specs.Faults.{assigned_again, can_end, reachable_among, unassigned_reads};
+ghost use Rattle.java_typed.specs.declared.statements.TStatement.{TStatement};
+ghost use Rattle.java_flow.specs.Statements.{statements};
+ghost use Rattle.java_flow.specs.Scopes.{piece, rest};
+ghost use Rattle.java_flow.specs.Faults.{assigned_again, can_end, unassigned_reads, unreachable_statements};
 
 /// Where each read finds a variable definitely assigned, no run reads it before it is assigned (JLS 16).
 pub fn reads_are_assigned()
@@ -18,8 +22,14 @@ pub fn assigned_once()
     ensures later { (x : JavaAct) (is : Variable → Bool) (es : Events JavaUse) (e : End Target) → Runs x es e → assigned_again is true x ≡ [] → NoneLater is es }
 {}
 
-/// No run reaches a statement that is unreachable, and no run of statements that can't complete normally does so (JLS 14.21).
+/// No run reaches a statement that is unreachable, where it stands once in the text, and no run of a text that can't complete
+/// normally does so (JLS 14.21).
 pub fn control_comes()
-    ensures reached { (x : JavaAct) (here : Position → Bool) (es : Events JavaUse) (e : End Target) → Runs x es e → reachable_among here x ≡ [] → ReachesNone here es }
+    ensures reached { (x : JavaAct) (here : Position → Bool) (es : Events JavaUse) (e : End Target) → Runs x es e → hits here (stands x) ≤ 1 → 1 ≤ hits here (unreachable_statements x) → ReachesNone here es }
     ensures ends { (x : JavaAct) (es : Events JavaUse) → can_end x ≡ false → Runs x es Normal → ⊥ }
+{}
+
+/// The scopes of locals are made of what the text does.
+pub fn scopes_are_parts()
+    ensures parts { (inner : ℕ → JavaAct) (xs : List TStatement) → rest (map (piece inner) xs) ≡ statements inner xs }
 {}

@@ -3,4 +3,4 @@
 
 mod laws;
 
-pub use laws::{assigned_once, control_comes, reads_are_assigned};
+pub use laws::{assigned_once, control_comes, reads_are_assigned, scopes_are_parts};
