@@ -4,6 +4,7 @@ pub mod Sound
 pub mod Rows
 pub mod Laws
 pub mod Places
+pub mod Finals
 pub mod Kept
 pub mod Chains
 pub mod Codes

@@ -1,12 +1,17 @@
 -- The laws of flows at Java's texts.
-use Rattle.std.proofs.Common.{◌≡◌, ◌≤◌, Bool, true, false, not, List, [], refl, ap, sym, ◌∙◌}
+use Rattle.std.proofs.Common.{◌≡◌, ◌≤◌, ℕ, Bool, true, false, not, ◌&&◌, ◌==◌, List, [], refl, ap, sym, ◌∙◌}
 use Rattle.java_tree.specs.declared.tokens.Position.{Position}
-use Rattle.flow.specs.Analyses.{flow, unreachable}
+use Rattle.std.proofs.lemmas.Bool.{eq-eqb}
+use Rattle.java_typed.specs.declared.types.ClassRef.{ClassRef}
+use Rattle.java_typed.specs.declared.types.ClassRef.TheVariants as class
+use Rattle.java_typed.specs.declared.members.MemberRef.{MemberRef}
+use Rattle.flow.specs.Acts.{Does, Then}
+use Rattle.flow.specs.Analyses.{Reads, flow, unreachable}
 use Rattle.flow.specs.Standing.{hits, stands}
 use Rattle.flow.specs.Runs.{Events, End, FindsAssigned, NoneLater, Normal, ReachesNone, Runs, times}
 use Rattle.flow.proofs.LawsToCite.{unreachable_is_not_reached, not_reachable, ends_where_it_can}
 use Rattle.flow.proofs.LawsToCite as l
-use Rattle.java_flow.specs.Variables.{JavaAct, JavaUse, Target, Variable, same_target}
+use Rattle.java_flow.specs.Variables.{JavaAct, JavaUse, Target, Variable, Simple, same_target, same_class, same_member, is_field}
 use Rattle.java_flow.specs.Faults.{assigned_again, can_end, unassigned_reads, unreachable_statements}
 use Rattle.java_flow.proofs.Targets.{tells_apart}
 
@@ -33,3 +38,18 @@ true_end false h = cc
 pub no_end : (x : JavaAct) (es : Events JavaUse) → can_end x ≡ false → Runs x es Normal → ⊥
 unfolding can_end
 no_end x es n p = ends_where_it_can same_target tells_apart (λ q a. a) x es (true_end _ n) p
+
+same_class_self : (class : ClassRef) → same_class class class ≡ true
+same_class_self (class.Library n) = eq-eqb n n refl
+same_class_self (class.Project n) = eq-eqb n n refl
+
+both_hold : (a b : Bool) → a ≡ true → b ≡ true → (a && b) ≡ true
+both_hold true b h k = k
+both_hold false b h k = h
+
+same_member_self : (m : MemberRef) → same_member m m ≡ true
+same_member_self m = both_hold (same_class m.class m.class) (m.place == m.place) (same_class_self m.class) (eq-eqb m.place m.place refl)
+
+pub exactly_once : (x : JavaAct) (member : MemberRef) (at : Position) (es : Events JavaUse) → Runs x es Normal → unassigned_reads (is_field member) false (Then x (Does (Reads (Simple member) at))) ≡ [] → assigned_again (is_field member) true x ≡ [] → times (is_field member) es ≡ 1
+unfolding unassigned_reads assigned_again
+exactly_once x member at es p n m = l.assigned_exactly_once (is_field member) (Simple member) at (same_member_self member) same_target tells_apart x es p n m

@@ -2,9 +2,12 @@
 
 ghost use Rattle.std.specs.Prelude.{◌≡◌, ◌≤◌, ℕ, Bool, List, [], map, true, false};
 ghost use Rattle.java_tree.specs.declared.tokens.Position.{Position};
+ghost use Rattle.java_typed.specs.declared.members.MemberRef.{MemberRef};
+ghost use Rattle.flow.specs.Acts.{Does, Then};
+ghost use Rattle.flow.specs.Analyses.{Reads};
 ghost use Rattle.flow.specs.Standing.{hits, stands};
 ghost use Rattle.flow.specs.Runs.{Events, End, FindsAssigned, NoneLater, Normal, ReachesNone, Runs, times};
-ghost use Rattle.java_flow.specs.Variables.{JavaAct, JavaUse, Target, Variable};
+ghost use Rattle.java_flow.specs.Variables.{JavaAct, JavaUse, Simple, Target, Variable, is_field};
 ghost use Rattle.java_typed.specs.declared.statements.TStatement.{TStatement};
 ghost use Rattle.java_flow.specs.Statements.{statements};
 ghost use Rattle.java_flow.specs.Scopes.{piece, rest};
@@ -20,6 +23,12 @@ pub fn reads_are_assigned()
 pub fn assigned_once()
     ensures once { (x : JavaAct) (is : Variable → Bool) (es : Events JavaUse) (e : End Target) → Runs x es e → assigned_again is true x ≡ [] → times is es ≤ 1 }
     ensures later { (x : JavaAct) (is : Variable → Bool) (es : Events JavaUse) (e : End Target) → Runs x es e → assigned_again is true x ≡ [] → NoneLater is es }
+{}
+
+/// A text that assigns a final field at least and at most once does so exactly once in each run that ends: a constructor with
+/// what comes before its body, the static part of a class (JLS 8.3.1.2).
+pub fn finals_are_assigned()
+    ensures exactly { (x : JavaAct) (member : MemberRef) (at : Position) (es : Events JavaUse) → Runs x es Normal → unassigned_reads (is_field member) false (Then x (Does (Reads (Simple member) at))) ≡ [] → assigned_again (is_field member) true x ≡ [] → times (is_field member) es ≡ 1 }
 {}
 
 /// No run reaches a statement that is unreachable, where it stands once in the text, and no run of a text that can't complete
