@@ -1,7 +1,7 @@
 -- The chain of a switch assigns what the switch assigns.
-use Rattle.std.proofs.Common.{◌≡◌, Bool, true, false, not, ◌&&◌, ◌||◌, List, [], ◌∷◌, ◌++◌, refl, sym, ap, ◌∙◌, subst}
+use Rattle.std.proofs.Common.{◌≡◌, Bool, true, false, ◌&&◌, List, [], ◌∷◌, ◌++◌, refl, sym, ap, ◌∙◌}
 use Rattle.std.proofs.Math.Path.{fun_ext}
-use Rattle.flow.specs.Acts.{Act, Groups, Done, Group}
+use Rattle.flow.specs.Acts.{Groups, Done, Group}
 use Rattle.flow.specs.Flows.{Flow, Part, skip, after, seq}
 use Rattle.flow.specs.Analyses.{Analysis, flow, groups}
 use Rattle.flow.specs.Forms.{perhaps, groups_of, switch_default, switch_open, chain, chain_default}
@@ -104,7 +104,7 @@ module _ {E T : Type 0} where
   seq_assoc x y z a =
       let f : Flow E T = x a in let g : Flow E T = y f.end in let h : Flow E T = z g.end in
       flow_same h.end (λ t. (f.at t && g.at t) && h.at t) ((f.faults ++ g.faults) ++ h.faults) (λ t. f.at t && (g.at t && h.at t)) (f.faults ++ (g.faults ++ h.faults)) h.end
-        refl (λ t. and_assoc (f.at t) (g.at t) (h.at t)) (append_assoc f.faults g.faults h.faults)
+      refl (λ t. and_assoc (f.at t) (g.at t) (h.at t)) (append_assoc f.faults g.faults h.faults)
 
   pub seq_skip : (x : Part E T) (a : Bool) → seq x skip a ≡ made (x a).end (x a).at (x a).faults
   seq_skip x a = sym (last x a)

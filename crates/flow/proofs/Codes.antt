@@ -1,6 +1,6 @@
 -- A block whose jumps are coded assigns what it assigned, where it doesn't assign the variable.
-use Rattle.std.proofs.Common.{◌≡◌, Bool, true, false, not, ◌&&◌, ◌||◌, List, [], ◌∷◌, ◌++◌, refl, sym, ap, ◌∙◌, subst}
-use Rattle.flow.specs.Flows.{Flow, Part, skip, after, seq, leave}
+use Rattle.std.proofs.Common.{◌≡◌, Bool, true, false, not, ◌&&◌, ◌||◌, List, [], ◌∷◌, ◌++◌, refl, sym, ap, ◌∙◌}
+use Rattle.flow.specs.Flows.{Part, after, seq}
 use Rattle.flow.specs.Forms.{is_in, all_at, coded, dispatch}
 use Rattle.flow.proofs.Chains.{made, flow_same, and_true, and_false, append_nil}
 
@@ -86,14 +86,14 @@ module _ {E T : Type 0} (same : T → T → Bool) where
     coded_same false =
         ap (λ b. after (coded same (t ∷ more) x false) (dispatch same ends (t ∷ more) b)) start_false ∙
         flow_same (dispatch same ends (t ∷ more) false).end (λ m. (is_in same m (t ∷ more) || (x false).at m) && (dispatch same ends (t ∷ more) false).at m) ((x false).faults ++ (dispatch same ends (t ∷ more) false).faults)
-          (x false).at (x false).faults (x false).end
-          (tests_end E same ends t more ∙ sym h.end_false)
-          (λ m. ap (λ b. (is_in same m (t ∷ more) || (x false).at m) && b) (tests_at E same ends t more m) ∙ passed (is_in same m (t ∷ more)) ((x false).at m) (h.reached m))
-          (ap (λ l. (x false).faults ++ l) (tests_fine E same ends t more false) ∙ append_nil (x false).faults)
+        (x false).at (x false).faults (x false).end
+        (tests_end E same ends t more ∙ sym h.end_false)
+        (λ m. ap (λ b. (is_in same m (t ∷ more) || (x false).at m) && b) (tests_at E same ends t more m) ∙ passed (is_in same m (t ∷ more)) ((x false).at m) (h.reached m))
+        (ap (λ l. (x false).faults ++ l) (tests_fine E same ends t more false) ∙ append_nil (x false).faults)
     coded_same true =
         ap (λ b. after (coded same (t ∷ more) x true) (dispatch same ends (t ∷ more) b)) start_true ∙
         flow_same (dispatch same ends (t ∷ more) true).end (λ m. (is_in same m (t ∷ more) || (x true).at m) && (dispatch same ends (t ∷ more) true).at m) ((x true).faults ++ (dispatch same ends (t ∷ more) true).faults)
-          (x true).at (x true).faults (x true).end
-          (end_of_tests E same ends t more ∙ sym h.end_true)
-          (λ m. ap (λ b. (is_in same m (t ∷ more) || (x true).at m) && b) (tests_true E same ends t more m) ∙ and_true (is_in same m (t ∷ more) || (x true).at m) ∙ either_true (is_in same m (t ∷ more)) ((x true).at m) (h.at_true m) ∙ sym (h.at_true m))
-          (ap (λ l. (x true).faults ++ l) (tests_fine E same ends t more true) ∙ append_nil (x true).faults)
+        (x true).at (x true).faults (x true).end
+        (end_of_tests E same ends t more ∙ sym h.end_true)
+        (λ m. ap (λ b. (is_in same m (t ∷ more) || (x true).at m) && b) (tests_true E same ends t more m) ∙ and_true (is_in same m (t ∷ more) || (x true).at m) ∙ either_true (is_in same m (t ∷ more)) ((x true).at m) (h.at_true m) ∙ sym (h.at_true m))
+        (ap (λ l. (x true).faults ++ l) (tests_fine E same ends t more true) ∙ append_nil (x true).faults)

@@ -1,5 +1,5 @@
 -- What is read behind a run was assigned in it.
-use Rattle.std.proofs.Common.{arith, ◌≡◌, ◌≤◌, ◌+◌, ℕ, Bool, true, false, ◌||◌, List, [], refl, sym, ap, ◌∙◌}
+use Rattle.std.proofs.Common.{arith, ◌≡◌, ◌≤◌, ◌+◌, ℕ, Bool, true, false, ◌||◌, [], refl}
 use Rattle.flow.specs.Acts.{Act, Does, Then}
 use Rattle.flow.specs.Analyses.{Use, Reads, Assigns, Reaches, flow, assignment, unassignment}
 use Rattle.flow.specs.Standing.{one_if}
@@ -36,4 +36,4 @@ module _ {V P : Type 0} (is : V → Bool) (v : V) (at : P) (it : is v ≡ true) 
       (flow same (assignment is) (Then x (Does (Reads v at))) false).faults ≡ [] → (flow same (unassignment is) x true).faults ≡ [] → times is es ≡ 1
   assigned_exactly_once same S x es p reads assigns =
       exactly (times is es) (assigned_once is same S x es Normal p assigns)
-        (was_assigned es false (reads_are_assigned is same S (Then x (Does (Reads v at))) (append es (Did (Reads v at) Nothing)) Normal (Runs.then_ x (Does (Reads v at)) es (Did (Reads v at) Nothing) Normal p (Runs.does (Reads v at))) false reads) refl)
+      (was_assigned es false (reads_are_assigned is same S (Then x (Does (Reads v at))) (append es (Did (Reads v at) Nothing)) Normal (Runs.then_ x (Does (Reads v at)) es (Did (Reads v at) Nothing) Normal p (Runs.does (Reads v at))) false reads) refl)

@@ -1,5 +1,5 @@
 -- A text in which nothing takes the state away keeps it, at its end and at each jump.
-use Rattle.std.proofs.Common.{◌≡◌, Bool, true, false, not, ◌&&◌, ◌||◌, refl, sym, ap, ◌∙◌, subst}
+use Rattle.std.proofs.Common.{◌≡◌, Bool, true, false, not, ◌&&◌, ◌||◌, refl, sym, subst}
 use Rattle.flow.specs.Acts.{Act, Test, Groups, Skip, Does, Asks, Jumps, Throws, Then, If, Forever, Block, Switch, Try, Finally, Later, Constant, Value, And, Or, Not, Choose, Done, Group}
 use Rattle.flow.specs.Flows.{Flow, Sides}
 use Rattle.flow.specs.Analyses.{Analysis, Use, takes, test_takes, groups_take, jumps, flow, sides, groups, kept, assignment, unassignment}

@@ -1,10 +1,10 @@
 -- What the three analyses say of runs.
-use Rattle.std.proofs.Common.{arith, ◌≡◌, ◌≤◌, ◌+◌, ℕ, Bool, true, false, not, ◌&&◌, ◌||◌, List, [], refl, sym, ap, ◌∙◌, subst}
+use Rattle.std.proofs.Common.{arith, ◌≡◌, ◌≤◌, ◌+◌, ℕ, Bool, true, false, not, ◌&&◌, ◌||◌, [], refl, sym, ◌∙◌}
 use Rattle.flow.specs.Acts.{Act}
-use Rattle.flow.specs.Analyses.{Use, Reads, Assigns, Reaches, Analysis, flow, assignment, unassignment, assigned_behind, reads_unassigned, unassigned_behind, assigns, assigns_again, control, at_place, reachable, unreachable}
+use Rattle.flow.specs.Analyses.{Use, Reads, Assigns, Reaches, flow, assignment, unassignment, assigned_behind, reads_unassigned, unassigned_behind, assigns, assigns_again, control, at_place, reachable}
 use Rattle.flow.specs.Standing.{one_if}
-use Rattle.flow.specs.Runs.{Events, Nothing, Did, Made, append, End, Normal, Runs, FindsAssigned, times, NoneLater, ReachesNone}
-use Rattle.flow.proofs.States.{Below, and_left, and_right, or_right, behinds, IsSound, Finds, TellsApart, at_end}
+use Rattle.flow.specs.Runs.{Events, Nothing, Did, Made, End, Normal, Runs, FindsAssigned, times, NoneLater, ReachesNone}
+use Rattle.flow.proofs.States.{Below, and_right, or_right, behinds, IsSound, Finds, TellsApart, at_end}
 use Rattle.flow.proofs.Sound.{sound}
 
 or_below : (x a b : Bool) → Below a b → Below (x || a) (x || b)
@@ -45,7 +45,6 @@ not_here true h = sym (h refl)
 not_here false h = refl
 
 module _ {V P : Type 0} where
-
   -- ---- A
 
   module _ (is : V → Bool) where
@@ -93,7 +92,6 @@ module _ {V P : Type 0} where
   -- ---- U
 
   module _ (is : V → Bool) where
-
     unassigned_grows : (e : Use V P) (a b : Bool) → Below a b → Below (unassigned_behind is e a) (unassigned_behind is e b)
     unassigned_grows (Reads v p) a b h = h
     unassigned_grows (Assigns v p) a b h = and_below (not (is v)) a b h

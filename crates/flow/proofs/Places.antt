@@ -1,9 +1,9 @@
 -- Each place that stands in a text is either among those where control can't come or among those where it can.
-use Rattle.std.proofs.Common.{arith, ◌≡◌, ◌≤◌, ◌+◌, ℕ, zero, suc, Bool, true, false, not, ◌&&◌, ◌||◌, List, [], ◌∷◌, ◌++◌, refl, sym, ap, ◌∙◌, subst, if◌then◌else◌}
+use Rattle.std.proofs.Common.{arith, ◌≡◌, ◌≤◌, ◌+◌, ℕ, Bool, true, false, not, ◌&&◌, ◌||◌, List, [], ◌∷◌, ◌++◌, refl, ap, ◌∙◌, subst, if◌then◌else◌}
 use Rattle.flow.specs.Acts.{Act, Test, Groups, Skip, Does, Asks, Jumps, Throws, Then, If, Forever, Block, Switch, Try, Finally, Later, Constant, Value, And, Or, Not, Choose, Done, Group}
 use Rattle.flow.specs.Flows.{Flow, Sides}
-use Rattle.flow.specs.Standing.{stands, test_stands, groups_stand, one_if, hits_of, hits}
-use Rattle.flow.specs.Analyses.{Use, Reads, Assigns, Reaches, takes, jumps, flow, sides, groups, start, kept, control, unreachable, reachable}
+use Rattle.flow.specs.Standing.{stands, test_stands, groups_stand, one_if, hits}
+use Rattle.flow.specs.Analyses.{Use, Reads, Assigns, Reaches, takes, jumps, flow, sides, groups, unreachable, reachable}
 
 both_same : (a b c d : Bool) → a ≡ c → b ≡ d → (a && b) ≡ (c && d)
 both_same a b c d h k = ap (λ z. z && b) h ∙ ap (λ z. c && z) k
@@ -85,7 +85,7 @@ module _ {V P : Type 0} (here : P → Bool) where
       parts_of (Forever x) a b h =
           let f = parts_of x a b h in
           let g = parts_of x (a && (not (takes unreachable x) || (flow same unreachable x a).end)) (b && (not (takes unreachable x) || (flow same (reachable here) x b).end))
-              (both_same _ _ _ _ h (ap (λ z. not (takes unreachable x) || z) f.end)) in
+          (both_same _ _ _ _ h (ap (λ z. not (takes unreachable x) || z) f.end)) in
           record { end = refl; at = g.at; parts = g.parts }
       parts_of (Block t x) a b h = let f = parts_of x a b h in record { end = both_same _ _ _ _ f.end (f.at t); at = λ m. ap (λ z. same t m || z) (f.at m); parts = f.parts }
       parts_of (Switch true gs) a b h = parts_of_groups gs a b true true h refl

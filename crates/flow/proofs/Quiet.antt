@@ -1,8 +1,8 @@
 -- A run of a text in which nothing takes the state away leaves it as it was.
-use Rattle.std.proofs.Common.{◌≡◌, Bool, true, false, ◌||◌, refl, sym, subst}
+use Rattle.std.proofs.Common.{◌≡◌, Bool, true, false, sym, subst}
 use Rattle.flow.specs.Acts.{Act, Test, Groups}
 use Rattle.flow.specs.Analyses.{Analysis, takes, test_takes, groups_take}
-use Rattle.flow.specs.Runs.{Events, append, Exit, End, Outcome, Runs, Tests, Falls, Enters}
+use Rattle.flow.specs.Runs.{Events, append, End, Outcome, Runs, Tests, Falls, Enters}
 use Rattle.flow.proofs.States.{Below, none_left, none_right, behinds, behinds_append, IsSound}
 
 module _ {E : Type 0} (k : Analysis E) where

@@ -1,5 +1,5 @@
 -- Small texts that the analyses tell exactly.
-use Rattle.std.proofs.Common.{◌≡◌, ℕ, Bool, true, false, ◌==◌, List, [], ◌∷◌, refl}
+use Rattle.std.proofs.Common.{◌≡◌, ℕ, Bool, true, false, ◌==◌, [], ◌∷◌, refl}
 use Rattle.flow.specs.Acts.{Act, Skip, Does, Jumps, Then, If, Forever, Block, Finally, Constant}
 use Rattle.flow.specs.Analyses.{Use, Reads, Assigns, flow, assignment, unassignment, unreachable}
 

@@ -1,9 +1,9 @@
 -- What a flow says of a state holds in every run, and each event of a run finds a state that is allowed where none is at fault.
-use Rattle.std.proofs.Common.{◌≡◌, Bool, true, false, not, ◌&&◌, ◌||◌, List, [], ◌∷◌, ◌++◌, refl, sym, ap, ◌∙◌, subst}
-use Rattle.flow.specs.Acts.{Act, Test, Groups, Done, Group, Forever}
+use Rattle.std.proofs.Common.{◌≡◌, Bool, true, false, not, ◌&&◌, ◌||◌, [], ◌++◌, sym, subst}
+use Rattle.flow.specs.Acts.{Act, Test, Groups, Done, Group}
 use Rattle.flow.specs.Flows.{Flow, Sides}
-use Rattle.flow.specs.Analyses.{Analysis, takes, jumps, test_jumps, groups_jump, flow, sides, groups, kept, start, repeated}
-use Rattle.flow.specs.Runs.{Events, append, Exit, Jumped, Threw, End, Normal, By, Outcome, Is, Out, Runs, Tests, Falls, Enters}
+use Rattle.flow.specs.Analyses.{Analysis, takes, jumps, test_jumps, groups_jump, flow, sides, groups, kept, repeated}
+use Rattle.flow.specs.Runs.{Events, append, Jumped, End, Outcome, Runs, Tests, Falls, Enters}
 use Rattle.flow.proofs.States.{Below, and_left, and_right, or_left, or_right, nil_left, nil_right, not_told, start_twice, comes_back, kept_below, behinds, behinds_append, IsSound, Finds, found_append, TellsApart, Leaves, jumped, threw, wider, Ends, ended, left, at_end, at_exit, ends_wider, TestEnds, is_true, is_false, out, at_true, at_false, at_out, tests_wider}
 use Rattle.flow.proofs.Quiet.{quiet}
 
@@ -25,7 +25,6 @@ jumped_through false m e h = cc
 
 module _ {E T : Type 0} (same : T → T → Bool) (S : TellsApart same) (k : Analysis E) (K : IsSound k) (Ok : E → Bool → Type 0)
     (allowed : (e : E) (a b : Bool) → k.is_fault e a ≡ false → Below a b → Ok e b) where
-
   abbrev Good : (T → Bool) → Flow E T → Bool → Events E → End T → Type 0
   Good J f b es e = Ends J f (behinds k b es) e × (f.faults ≡ [] → Finds k Ok b es)
 
@@ -73,22 +72,25 @@ module _ {E T : Type 0} (same : T → T → Bool) (S : TellsApart same) (k : Ana
     sound (Runs.jumps t) a b h = (left (jumped t (S.self t) (jump_here (same t t) a b (S.self t) h)), λ n. tt)
     sound (Runs.then_ x y es fs e p q) a b h =
         let i = sound p a b h in
-        let j = sound q (flow same k x a).end (behinds k b es) (at_end i.0) in
-        (chained b es fs (ends_wider (λ n. n) (λ t n. or_right _ _ n) (λ t n. and_right _ _ n) j.0),
-        λ n. found_append k Ok b es fs (i.1 (nil_left _ _ n)) (j.1 (nil_right _ _ n)))
+        let j = sound q (flow same k x a).end (behinds k b es) (at_end i.0) in (
+          chained b es fs (ends_wider (λ n. n) (λ t n. or_right _ _ n) (λ t n. and_right _ _ n) j.0),
+          λ n. found_append k Ok b es fs (i.1 (nil_left _ _ n)) (j.1 (nil_right _ _ n)),
+        )
     sound (Runs.then_ends x y es j p) a b h =
         let i = sound p a b h in
         (left (wider (λ t n. or_left _ _ n) (λ t n. and_left _ _ n) (at_exit i.0)), λ n. i.1 (nil_left _ _ n))
     sound (Runs.if_true l c x y es fs e p q) a b h =
         let i = test_sound p (l || k.counts) a b h in
-        let j = sound q (sides same k c (l || k.counts) a).yes (behinds k b es) (at_true i.0) in
-        (chained b es fs (ends_wider (λ n. and_left _ _ n) (λ t n. or_right _ _ (or_left _ _ n)) (λ t n. and_left _ _ (and_right _ _ n)) j.0),
-        λ n. found_append k Ok b es fs (i.1 (nil_left _ _ n)) (j.1 (nil_left _ _ (nil_right _ _ n))))
+        let j = sound q (sides same k c (l || k.counts) a).yes (behinds k b es) (at_true i.0) in (
+          chained b es fs (ends_wider (λ n. and_left _ _ n) (λ t n. or_right _ _ (or_left _ _ n)) (λ t n. and_left _ _ (and_right _ _ n)) j.0),
+          λ n. found_append k Ok b es fs (i.1 (nil_left _ _ n)) (j.1 (nil_left _ _ (nil_right _ _ n))),
+        )
     sound (Runs.if_false l c x y es fs e p q) a b h =
         let i = test_sound p (l || k.counts) a b h in
-        let j = sound q (sides same k c (l || k.counts) a).no (behinds k b es) (at_false i.0) in
-        (chained b es fs (ends_wider (λ n. and_right _ _ n) (λ t n. or_right _ _ (or_right _ _ n)) (λ t n. and_right _ _ (and_right _ _ n)) j.0),
-        λ n. found_append k Ok b es fs (i.1 (nil_left _ _ n)) (j.1 (nil_right _ _ (nil_right _ _ n))))
+        let j = sound q (sides same k c (l || k.counts) a).no (behinds k b es) (at_false i.0) in (
+          chained b es fs (ends_wider (λ n. and_right _ _ n) (λ t n. or_right _ _ (or_right _ _ n)) (λ t n. and_right _ _ (and_right _ _ n)) j.0),
+          λ n. found_append k Ok b es fs (i.1 (nil_left _ _ n)) (j.1 (nil_right _ _ (nil_right _ _ n))),
+        )
     sound (Runs.if_ends l c x y es j p) a b h =
         let i = test_sound p (l || k.counts) a b h in
         (left (wider (λ t n. or_left _ _ n) (λ t n. and_left _ _ n) (at_out i.0)), λ n. i.1 (nil_left _ _ n))
@@ -114,19 +116,22 @@ module _ {E T : Type 0} (same : T → T → Bool) (S : TellsApart same) (k : Ana
         (ends_wider (λ n. and_left _ _ n) (λ t n. or_left _ _ n) (λ t n. and_left _ _ n) i.0, λ n. i.1 (nil_left _ _ n))
     sound (Runs.caught x y es fs e p q) a b h =
         let i = sound p a b h in
-        let j = sound q (kept same k x a) (behinds k b es) (kept_below a (takes k x) b (behinds k b es) h (λ t. quiet k K p t b)) in
-        (chained b es fs (ends_wider (λ n. and_right _ _ n) (λ t n. or_right _ _ n) (λ t n. and_right _ _ n) j.0),
-        λ n. found_append k Ok b es fs (i.1 (nil_left _ _ n)) (j.1 (nil_right _ _ n)))
+        let j = sound q (kept same k x a) (behinds k b es) (kept_below a (takes k x) b (behinds k b es) h (λ t. quiet k K p t b)) in (
+          chained b es fs (ends_wider (λ n. and_right _ _ n) (λ t n. or_right _ _ n) (λ t n. and_right _ _ n) j.0),
+          λ n. found_append k Ok b es fs (i.1 (nil_left _ _ n)) (j.1 (nil_right _ _ n)),
+        )
     sound (Runs.finished x y es fs e p q) a b h =
         let i = sound p a b h in
-        let j = sound q (kept same k x a) (behinds k b es) (kept_below a (takes k x) b (behinds k b es) h (λ t. quiet k K p t b)) in
-        (chained b es fs (finish x (flow same k y (kept same k x a)) (behinds k b es) fs (λ t n. or_left _ _ n) i.0 (at_end j.0)),
-        λ n. found_append k Ok b es fs (i.1 (nil_left _ _ n)) (j.1 (nil_right _ _ n)))
+        let j = sound q (kept same k x a) (behinds k b es) (kept_below a (takes k x) b (behinds k b es) h (λ t. quiet k K p t b)) in (
+          chained b es fs (finish x (flow same k y (kept same k x a)) (behinds k b es) fs (λ t n. or_left _ _ n) i.0 (at_end j.0)),
+          λ n. found_append k Ok b es fs (i.1 (nil_left _ _ n)) (j.1 (nil_right _ _ n)),
+        )
     sound (Runs.finally_ends x y es fs e l p q) a b h =
         let i = sound p a b h in
-        let j = sound q (kept same k x a) (behinds k b es) (kept_below a (takes k x) b (behinds k b es) h (λ t. quiet k K p t b)) in
-        (chained b es fs (left (wider (λ t n. or_right _ _ n) (λ t n. and_right _ _ n) (at_exit j.0))),
-        λ n. found_append k Ok b es fs (i.1 (nil_left _ _ n)) (j.1 (nil_right _ _ n)))
+        let j = sound q (kept same k x a) (behinds k b es) (kept_below a (takes k x) b (behinds k b es) h (λ t. quiet k K p t b)) in (
+          chained b es fs (left (wider (λ t n. or_right _ _ n) (λ t n. and_right _ _ n) (at_exit j.0))),
+          λ n. found_append k Ok b es fs (i.1 (nil_left _ _ n)) (j.1 (nil_right _ _ n)),
+        )
     sound (Runs.later x) a b h = (ended h, λ n. tt)
     sound (Runs.later_runs x es gs e p q) a b h =
         let i = sound p (k.later a) (k.later b) (K.delays a b h) in
@@ -145,18 +150,20 @@ module _ {E T : Type 0} (same : T → T → Bool) (S : TellsApart same) (k : Ana
     test_sound (Tests.value_ends x es j p) l a b h = let i = sound p a b h in (out (at_exit i.0), i.1)
     test_sound (Tests.and_true c d es fs o p q) l a b h =
         let i = test_sound p k.counts a b h in
-        let j = test_sound q k.counts (sides same k c k.counts a).yes (behinds k b es) (at_true i.0) in
-        (test_chained b es fs (tests_wider (λ n. n) (λ n. and_right _ _ n) (λ t n. or_right _ _ n) (λ t n. and_right _ _ n) j.0),
-        λ n. found_append k Ok b es fs (i.1 (nil_left _ _ n)) (j.1 (nil_right _ _ n)))
+        let j = test_sound q k.counts (sides same k c k.counts a).yes (behinds k b es) (at_true i.0) in (
+          test_chained b es fs (tests_wider (λ n. n) (λ n. and_right _ _ n) (λ t n. or_right _ _ n) (λ t n. and_right _ _ n) j.0),
+          λ n. found_append k Ok b es fs (i.1 (nil_left _ _ n)) (j.1 (nil_right _ _ n)),
+        )
     test_sound (Tests.and_false c d es p) l a b h = let i = test_sound p k.counts a b h in (is_false (λ n. at_false i.0 (and_left _ _ n)), λ n. i.1 (nil_left _ _ n))
     test_sound (Tests.and_ends c d es j p) l a b h =
         let i = test_sound p k.counts a b h in
         (out (wider (λ t n. or_left _ _ n) (λ t n. and_left _ _ n) (at_out i.0)), λ n. i.1 (nil_left _ _ n))
     test_sound (Tests.or_false c d es fs o p q) l a b h =
         let i = test_sound p k.counts a b h in
-        let j = test_sound q k.counts (sides same k c k.counts a).no (behinds k b es) (at_false i.0) in
-        (test_chained b es fs (tests_wider (λ n. and_right _ _ n) (λ n. n) (λ t n. or_right _ _ n) (λ t n. and_right _ _ n) j.0),
-        λ n. found_append k Ok b es fs (i.1 (nil_left _ _ n)) (j.1 (nil_right _ _ n)))
+        let j = test_sound q k.counts (sides same k c k.counts a).no (behinds k b es) (at_false i.0) in (
+          test_chained b es fs (tests_wider (λ n. and_right _ _ n) (λ n. n) (λ t n. or_right _ _ n) (λ t n. and_right _ _ n) j.0),
+          λ n. found_append k Ok b es fs (i.1 (nil_left _ _ n)) (j.1 (nil_right _ _ n)),
+        )
     test_sound (Tests.or_true c d es p) l a b h = let i = test_sound p k.counts a b h in (is_true (λ n. at_true i.0 (and_left _ _ n)), λ n. i.1 (nil_left _ _ n))
     test_sound (Tests.or_ends c d es j p) l a b h =
         let i = test_sound p k.counts a b h in
@@ -166,14 +173,16 @@ module _ {E T : Type 0} (same : T → T → Bool) (S : TellsApart same) (k : Ana
     test_sound (Tests.not_ends c es j p) l a b h = let i = test_sound p k.counts a b h in (out (at_out i.0), i.1)
     test_sound (Tests.choose_true c d f es fs o p q) l a b h =
         let i = test_sound p k.counts a b h in
-        let j = test_sound q k.counts (sides same k c k.counts a).yes (behinds k b es) (at_true i.0) in
-        (test_chained b es fs (tests_wider (λ n. and_left _ _ n) (λ n. and_left _ _ n) (λ t n. or_right _ _ (or_left _ _ n)) (λ t n. and_left _ _ (and_right _ _ n)) j.0),
-        λ n. found_append k Ok b es fs (i.1 (nil_left _ _ n)) (j.1 (nil_left _ _ (nil_right _ _ n))))
+        let j = test_sound q k.counts (sides same k c k.counts a).yes (behinds k b es) (at_true i.0) in (
+          test_chained b es fs (tests_wider (λ n. and_left _ _ n) (λ n. and_left _ _ n) (λ t n. or_right _ _ (or_left _ _ n)) (λ t n. and_left _ _ (and_right _ _ n)) j.0),
+          λ n. found_append k Ok b es fs (i.1 (nil_left _ _ n)) (j.1 (nil_left _ _ (nil_right _ _ n))),
+        )
     test_sound (Tests.choose_false c d f es fs o p q) l a b h =
         let i = test_sound p k.counts a b h in
-        let j = test_sound q k.counts (sides same k c k.counts a).no (behinds k b es) (at_false i.0) in
-        (test_chained b es fs (tests_wider (λ n. and_right _ _ n) (λ n. and_right _ _ n) (λ t n. or_right _ _ (or_right _ _ n)) (λ t n. and_right _ _ (and_right _ _ n)) j.0),
-        λ n. found_append k Ok b es fs (i.1 (nil_left _ _ n)) (j.1 (nil_right _ _ (nil_right _ _ n))))
+        let j = test_sound q k.counts (sides same k c k.counts a).no (behinds k b es) (at_false i.0) in (
+          test_chained b es fs (tests_wider (λ n. and_right _ _ n) (λ n. and_right _ _ n) (λ t n. or_right _ _ (or_right _ _ n)) (λ t n. and_right _ _ (and_right _ _ n)) j.0),
+          λ n. found_append k Ok b es fs (i.1 (nil_left _ _ n)) (j.1 (nil_right _ _ (nil_right _ _ n))),
+        )
     test_sound (Tests.choose_ends c d f es j p) l a b h =
         let i = test_sound p k.counts a b h in
         (out (wider (λ t n. or_left _ _ n) (λ t n. and_left _ _ n) (at_out i.0)), λ n. i.1 (nil_left _ _ n))
@@ -182,9 +191,10 @@ module _ {E T : Type 0} (same : T → T → Bool) (S : TellsApart same) (k : Ana
     falls_sound Falls.done a c b h = (ended h, λ n. tt)
     falls_sound (Falls.falls x more es fs e p q) a c b h =
         let i = sound p (a && c) b h in
-        let j = falls_sound q a (flow same k x (a && c)).end (behinds k b es) (begins more a _ _ (at_end i.0)) in
-        (chained b es fs (ends_wider (λ n. n) (λ t n. or_right _ _ n) (λ t n. and_right _ _ n) j.0),
-        λ n. found_append k Ok b es fs (i.1 (nil_left _ _ n)) (j.1 (nil_right _ _ n)))
+        let j = falls_sound q a (flow same k x (a && c)).end (behinds k b es) (begins more a _ _ (at_end i.0)) in (
+          chained b es fs (ends_wider (λ n. n) (λ t n. or_right _ _ n) (λ t n. and_right _ _ n) j.0),
+          λ n. found_append k Ok b es fs (i.1 (nil_left _ _ n)) (j.1 (nil_right _ _ n)),
+        )
     falls_sound (Falls.leaves x more es j p) a c b h =
         let i = sound p (a && c) b h in
         (left (wider (λ t n. or_left _ _ n) (λ t n. and_left _ _ n) (at_exit i.0)), λ n. i.1 (nil_left _ _ n))

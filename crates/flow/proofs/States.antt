@@ -1,6 +1,5 @@
 -- The state of a run, and when an analysis speaks truly of it.
-use Rattle.std.proofs.Common.{◌≡◌, Bool, true, false, not, ◌&&◌, ◌||◌, List, [], ◌∷◌, ◌++◌, refl, sym, ap, ◌∙◌, subst, if◌then◌else◌}
-use Rattle.flow.specs.Acts.{Act, Test, Groups, Done, Group}
+use Rattle.std.proofs.Common.{◌≡◌, Bool, true, false, not, ◌&&◌, ◌||◌, List, [], ◌∷◌, ◌++◌, refl, sym, subst, if◌then◌else◌}
 use Rattle.flow.specs.Flows.{Flow, Sides}
 use Rattle.flow.specs.Analyses.{Analysis}
 use Rattle.flow.specs.Runs.{Events, Nothing, Did, Made, append, Exit, Jumped, Threw, End, Normal, By, Outcome, Is, Out}

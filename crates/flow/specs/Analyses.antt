@@ -1,7 +1,7 @@
 -- Definite assignment (A), definite unassignment (U) and reachability as three analyses of one kind.
-use Rattle.std.specs.Prelude.{Bool, true, false, not, ◌&&◌, ◌||◌, List, [], ◌∷◌, ◌++◌, if◌then◌else◌}
+use Rattle.std.specs.Prelude.{Bool, true, false, not, ◌&&◌, ◌||◌, [], ◌∷◌, ◌++◌, if◌then◌else◌}
 use Rattle.flow.specs.Acts.{Act, Test, Groups, Skip, Does, Asks, Jumps, Throws, Then, If, Forever, Block, Switch, Try, Finally, Later, Constant, Value, And, Or, Not, Choose, Done, Group}
-use Rattle.flow.specs.Flows.{Flow, Sides, Part, Condition, nowhere, skip, stop, after, seq, choice, without_default, asked, unknown, constant, both, one_of, negated, chosen, leave, block}
+use Rattle.flow.specs.Flows.{Flow, Part, Condition, nowhere, skip, stop, after, seq, choice, without_default, asked, unknown, constant, both, one_of, negated, chosen, leave, block}
 
 -- What an analysis of one state asks.
 pub record Analysis (E : Type 0) : Type 0 where

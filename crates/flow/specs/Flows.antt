@@ -1,6 +1,6 @@
 -- The algebra of flows: what is known of one state, a truth value, behind a text and at its jumps. Where control can't go on
 -- the state is true.
-use Rattle.std.specs.Prelude.{Bool, true, false, not, ◌&&◌, ◌||◌, List, [], ◌∷◌, ◌++◌}
+use Rattle.std.specs.Prelude.{Bool, true, false, not, ◌&&◌, ◌||◌, List, [], ◌++◌}
 
 -- the state at the end, the state at the jumps to each target, and the events that find it as it mustn't be
 pub record Flow (E T : Type 0) : Type 0 where

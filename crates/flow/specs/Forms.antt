@@ -1,7 +1,7 @@
 -- Other forms that a language may give a text: the groups of a switch as a chain of tests, and the jumps out of a block as
 -- numbers that are tested behind it.
-use Rattle.std.specs.Prelude.{Bool, true, false, not, ◌&&◌, ◌||◌, List, [], ◌∷◌, ◌++◌}
-use Rattle.flow.specs.Flows.{Flow, Sides, Part, Condition, skip, after, seq, choice, unknown, without_default, leave}
+use Rattle.std.specs.Prelude.{Bool, true, false, ◌&&◌, ◌||◌, List, [], ◌∷◌}
+use Rattle.flow.specs.Flows.{Flow, Part, Condition, skip, after, seq, choice, unknown, without_default, leave}
 
 module _ {E T : Type 0} where
   -- a test that does nothing to the state

@@ -1,6 +1,6 @@
 -- The runs of a text: what a run does, in order, and how it ends. Of flows and states they know nothing.
-use Rattle.std.specs.Prelude.{◌≡◌, ℕ, zero, suc, ◌+◌, Bool, true, false, not, ◌&&◌, ◌||◌}
-use Rattle.flow.specs.Acts.{Act, Test, Groups, Skip, Does, Asks, Jumps, Throws, Then, If, Forever, Block, Switch, Try, Finally, Later, Constant, Value, And, Or, Not, Choose, Done, Group}
+use Rattle.std.specs.Prelude.{◌≡◌, ℕ, ◌+◌, Bool, true, false, ◌||◌}
+use Rattle.flow.specs.Acts.{Act, Test, Groups, Skip, Does, Asks, Jumps, Then, If, Forever, Block, Switch, Try, Finally, Later, Constant, Value, And, Or, Not, Choose, Done, Group}
 use Rattle.flow.specs.Standing.{one_if}
 use Rattle.flow.specs.Analyses.{Use, Reads, Assigns, Reaches}
 
