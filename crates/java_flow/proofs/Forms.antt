@@ -1,5 +1,5 @@
 -- What each form of an expression and of a statement does, by what its parts do.
-use Rattle.std.proofs.Common.{◌≡◌, ℕ, Bool, List, [], map, Option, Some, None, refl, ap, sym, ◌∙◌}
+use Rattle.std.proofs.Common.{◌≡◌, ℕ, List, map, Option, ap, sym, ◌∙◌}
 use Rattle.java_tree.specs.declared.tokens.Position.{Position}
 use Rattle.j2k_base.specs.declared.constants.Value.{Value}
 use Rattle.java_typed.specs.declared.types.TType.{TType}
@@ -10,15 +10,15 @@ use Rattle.java_typed.specs.declared.exprs.TExpr.TheOpen.{TExpr-F}
 use Rattle.java_typed.specs.declared.exprs.TExpr.TheVariants as e
 use Rattle.java_typed.specs.declared.statements.TSimple.{TSimple}
 use Rattle.java_typed.specs.declared.statements.TBody.{TBody}
-use Rattle.java_typed.specs.declared.statements.TBody.TheOpen.{TBody-F, TStatement-F, TCaseGroup-F, TCatch-F}
+use Rattle.java_typed.specs.declared.statements.TBody.TheOpen.{TStatement-F, TCaseGroup-F}
 use Rattle.java_typed.specs.declared.statements.TBody.TheFolds.{map-TStatement, map-TCaseGroup}
 use Rattle.java_typed.specs.declared.statements.TCaseGroup.{TCaseGroup, roll-TCaseGroup, fold-TCaseGroup, fold-roll-TCaseGroup}
 use Rattle.java_typed.specs.declared.statements.TCatch.{TCatch, fold-TCatch}
 use Rattle.java_typed.specs.declared.statements.TStatement.{TStatement, roll-TStatement, fold-roll-TStatement}
 use Rattle.java_typed.specs.declared.statements.TStatement.TheVariants as made
-use Rattle.java_flow.specs.Variables.{JavaAct, Local, reached}
+use Rattle.java_flow.specs.Variables.{JavaAct, Local}
 use Rattle.java_flow.specs.Expressions.{Said, said, said_by, all, just, constant_by, named_by, assign_by}
-use Rattle.java_flow.specs.Statements.{Statement, CaseGroup, statement, body, body_by, statement_by, group_by, catch_by, simple_by}
+use Rattle.java_flow.specs.Statements.{Statement, CaseGroup, statement, body, body_by, statement_by, group_by, catch_by}
 
 module _ (bodies : ℕ → JavaAct) where
   said_form : (x : TExpr-F TExpr) (y : TExpr) → roll-TExpr x ≡ y → said bodies y ≡ said_by bodies (map-TExpr TExpr Said (said bodies) x)

@@ -1,20 +1,20 @@
 -- The scopes of a text's locals are made of what the text does.
-use Rattle.std.proofs.Common.{◌≡◌, ℕ, Bool, List, [], ◌∷◌, map, Option, Some, None, refl, sym, ap, ◌∙◌}
+use Rattle.std.proofs.Common.{◌≡◌, ℕ, List, [], ◌∷◌, map, refl, sym, ap, ◌∙◌}
 use mathlib.Core.Sorted.{joined}
 use denote.Hole.Carrier.{Values, roll, fold}
 use denote.Hole.Recursion.{fold_unique}
-use Rattle.java_typed.specs.declared.statements.TBody.{TBody, roll-TBody, map-TBody, map_is-TBody, fold-TBody, fold-roll-TBody}
+use Rattle.java_typed.specs.declared.statements.TBody.{TBody, roll-TBody, map-TBody, map_is-TBody, fold-roll-TBody}
 use Rattle.java_typed.specs.declared.statements.TBody.TheOpen.{TBody-F, TStatement-F, TCaseGroup-F, TCatch-F}
 use Rattle.java_typed.specs.declared.statements.TBody.TheBlock.{the_members, the_sigs, the_carrier, member-TBody, member-TStatement, member-TCaseGroup, member-TCatch}
 use Rattle.java_typed.specs.declared.statements.TBody.TheFolds.{family, steps, map-TStatement, map-TCaseGroup, map-TCatch, map_is-TStatement, map_is-TCaseGroup, map_is-TCatch}
 use Rattle.java_typed.specs.declared.statements.TBody.TheViews.{roll-TStatement}
-use Rattle.java_typed.specs.declared.statements.TStatement.{TStatement, fold-TStatement, fold-roll-TStatement}
+use Rattle.java_typed.specs.declared.statements.TStatement.{TStatement, fold-roll-TStatement}
 use Rattle.java_typed.specs.declared.statements.TCaseGroup.{TCaseGroup, roll-TCaseGroup, fold-TCaseGroup, fold-roll-TCaseGroup}
 use Rattle.java_typed.specs.declared.statements.TCatch.{TCatch, roll-TCatch, fold-TCatch, fold-roll-TCatch}
 use Rattle.flow.specs.Acts.{Then}
 use Rattle.java_flow.specs.Variables.{JavaAct}
 use Rattle.java_flow.specs.Statements.{Statement, CaseGroup, statement, statements, body, block, body_by, statement_by, group_by, catch_by, given}
-use Rattle.java_flow.specs.Scopes.{Inner, Piece, Labeled, GroupPiece, does_of, rest, acts, inner_by, piece_by, case_by, caught_by, piece, inner_of}
+use Rattle.java_flow.specs.Scopes.{Inner, Labeled, GroupPiece, does_of, rest, acts, inner_by, piece_by, case_by, caught_by, piece, inner_of}
 use Rattle.java_flow.proofs.Forms.{group, catch}
 
 module _ {A B C : Type 0} where

@@ -1,5 +1,5 @@
 -- Worked rows: small texts, and what the definitions say of them.
-use Rattle.std.proofs.Common.{◌≡◌, ℕ, pos, Bool, true, false, List, [], ◌∷◌, Option, Some, None, map, refl, ap, sym, ◌∙◌}
+use Rattle.std.proofs.Common.{◌≡◌, ℕ, pos, true, false, List, [], ◌∷◌, Option, Some, None, refl, ap, ◌∙◌}
 use Rattle.std.specs.List.{list_any}
 use Rattle.java_tree.specs.declared.tokens.Position.{Position}
 use Rattle.j2k_base.specs.declared.constants.Kind.TheVariants as kind
@@ -15,7 +15,7 @@ use Rattle.java_typed.specs.declared.statements.TLabel.TheVariants as label
 use Rattle.java_typed.specs.declared.statements.TCaseGroup.{TCaseGroup, roll-TCaseGroup}
 use Rattle.java_typed.specs.declared.statements.TStatement.{TStatement}
 use Rattle.java_typed.specs.declared.statements.TStatement.TheVariants as made
-use Rattle.flow.specs.Acts.{Act, Skip, Then, Jumps, If, Finally, Block, Switch}
+use Rattle.flow.specs.Acts.{Skip, Then, Jumps, If, Finally, Block, Switch}
 use Rattle.flow.specs.Analyses.{Reads, Assigns, Reaches}
 use Rattle.java_flow.specs.Variables.{JavaAct, Out, Behind, Next, Local, is_local, reached}
 use Rattle.java_flow.specs.Statements.{Statement, CaseGroup, statement, statements, groups, any_default, is_default, nth, looped, looped_do, round}
@@ -91,9 +91,11 @@ shown_value : (n : ℕ) {y : TExpr} {v : Said} → Says y v → Shows (made.Simp
 shown_value n {y} h = record { is = statement_Simple nothing (at n) (simple.Value y) [] ∙ ap {B = Statement} (λ (v : Said) (name : Option (List ℕ)). Then (reached (at n)) (done v)) h.is }
 
 assigned : (n : ℕ) → Says (e.Assign (e.Local x (at n) int) (at n) (e.Literal (value.Number (const.Int (pos 1))) (at n))) (assign_by (named_by (Local x) (at n)) (constant_by (value.Number (const.Int (pos 1)))))
-assigned n = record { is = said_Assign (nth []) (e.Local x (at n) int) (at n) (e.Literal (value.Number (const.Int (pos 1))) (at n))
-    ∙ ap (λ v. assign_by v (said (nth []) (e.Literal (value.Number (const.Int (pos 1))) (at n)))) (said_Local (nth []) x (at n) int)
-    ∙ ap (λ v. assign_by (named_by (Local x) (at n)) v) (said_Literal (nth []) (value.Number (const.Int (pos 1))) (at n)) }
+assigned n = record {
+  is = said_Assign (nth []) (e.Local x (at n) int) (at n) (e.Literal (value.Number (const.Int (pos 1))) (at n))
+      ∙ ap (λ v. assign_by v (said (nth []) (e.Literal (value.Number (const.Int (pos 1))) (at n)))) (said_Local (nth []) x (at n) int)
+      ∙ ap (λ v. assign_by (named_by (Local x) (at n)) v) (said_Literal (nth []) (value.Number (const.Int (pos 1))) (at n));
+}
 
 shown_sets : (n : ℕ) → Shows (sets n) (λ name. Then (reached (at n)) (done (assign_by (named_by (Local x) (at n)) (constant_by (value.Number (const.Int (pos 1)))))))
 shown_sets n = shown_value n (assigned n)
@@ -109,22 +111,28 @@ shown_breaks n = record { is = statement_Simple nothing (at n) (simple.Break Non
 
 shown_if : (n : ℕ) {y : TExpr} {s : TStatement} {v : Said} {f : Statement} → Says y v → Shows s f →
     Shows (made.If (at n) y [] s) (λ name. Then (reached (at n)) (If false v.test (f None) Skip))
-shown_if n {y} {s} {v} {f} h does = record { is = statement_If nothing (at n) y [] s
-    ∙ ap {B = Statement} (λ (w : Said) (name : Option (List ℕ)). Then (reached (at n)) (If false w.test (statement nothing s None) Skip)) h.is
-    ∙ ap {B = Statement} (λ (g : Statement) (name : Option (List ℕ)). Then (reached (at n)) (If false v.test (g None) Skip)) does.is }
+shown_if n {y} {s} {v} {f} h does = record {
+  is = statement_If nothing (at n) y [] s
+      ∙ ap {B = Statement} (λ (w : Said) (name : Option (List ℕ)). Then (reached (at n)) (If false w.test (statement nothing s None) Skip)) h.is
+      ∙ ap {B = Statement} (λ (g : Statement) (name : Option (List ℕ)). Then (reached (at n)) (If false v.test (g None) Skip)) does.is;
+}
 
 shown_else : (n : ℕ) {y : TExpr} {s r : TStatement} {v : Said} {f g : Statement} → Says y v → Shows s f → Shows r g →
     Shows (made.IfElse (at n) y [] s r) (λ name. Then (reached (at n)) (If false v.test (f None) (g None)))
-shown_else n {y} {s} {r} {v} {f} {g} h does others = record { is = statement_IfElse nothing (at n) y [] s r
-    ∙ ap {B = Statement} (λ (w : Said) (name : Option (List ℕ)). Then (reached (at n)) (If false w.test (statement nothing s None) (statement nothing r None))) h.is
-    ∙ ap {B = Statement} (λ (z : Statement) (name : Option (List ℕ)). Then (reached (at n)) (If false v.test (z None) (statement nothing r None))) does.is
-    ∙ ap {B = Statement} (λ (z : Statement) (name : Option (List ℕ)). Then (reached (at n)) (If false v.test (f None) (z None))) others.is }
+shown_else n {y} {s} {r} {v} {f} {g} h does others = record {
+  is = statement_IfElse nothing (at n) y [] s r
+      ∙ ap {B = Statement} (λ (w : Said) (name : Option (List ℕ)). Then (reached (at n)) (If false w.test (statement nothing s None) (statement nothing r None))) h.is
+      ∙ ap {B = Statement} (λ (z : Statement) (name : Option (List ℕ)). Then (reached (at n)) (If false v.test (z None) (statement nothing r None))) does.is
+      ∙ ap {B = Statement} (λ (z : Statement) (name : Option (List ℕ)). Then (reached (at n)) (If false v.test (f None) (z None))) others.is;
+}
 
 shown_while : (n : ℕ) {y : TExpr} {s : TStatement} {v : Said} {f : Statement} → Says y v → Shows s f →
     Shows (made.While (at n) y [] s) (λ name. Then (reached (at n)) (looped v.test (round name f)))
-shown_while n {y} {s} {v} {f} h does = record { is = statement_While nothing (at n) y [] s
-    ∙ ap {B = Statement} (λ (w : Said) (name : Option (List ℕ)). Then (reached (at n)) (looped w.test (round name (statement nothing s)))) h.is
-    ∙ ap {B = Statement} (λ (g : Statement) (name : Option (List ℕ)). Then (reached (at n)) (looped v.test (round name g))) does.is }
+shown_while n {y} {s} {v} {f} h does = record {
+  is = statement_While nothing (at n) y [] s
+      ∙ ap {B = Statement} (λ (w : Said) (name : Option (List ℕ)). Then (reached (at n)) (looped w.test (round name (statement nothing s)))) h.is
+      ∙ ap {B = Statement} (λ (g : Statement) (name : Option (List ℕ)). Then (reached (at n)) (looped v.test (round name g))) does.is;
+}
 
 end_of : AllShow [] Skip
 end_of = record { is = refl }
@@ -136,31 +144,39 @@ shown_block : (n k : ℕ) {xs : List TStatement} {m : JavaAct} → AllShow xs m 
 shown_block n k {xs} h = record { is = statement_Block nothing (at n) xs (at k) ∙ ap {B = Statement} (λ (a : JavaAct) (name : Option (List ℕ)). Then (reached (at n)) a) h.is }
 
 shown_try : (n : ℕ) {xs ys : List TStatement} {m l : JavaAct} → AllShow xs m → AllShow ys l → Shows (made.Try (at n) xs [] (Some (at n)) ys) (λ name. Then (reached (at n)) (Finally m l))
-shown_try n {xs} {ys} {m} {l} h last = record { is = statement_Try nothing (at n) xs [] (Some (at n)) ys
-    ∙ ap {B = Statement} (λ (a : JavaAct) (name : Option (List ℕ)). Then (reached (at n)) (Finally a (statements nothing ys))) h.is
-    ∙ ap {B = Statement} (λ (a : JavaAct) (name : Option (List ℕ)). Then (reached (at n)) (Finally m a)) last.is }
+shown_try n {xs} {ys} {m} {l} h last = record {
+  is = statement_Try nothing (at n) xs [] (Some (at n)) ys
+      ∙ ap {B = Statement} (λ (a : JavaAct) (name : Option (List ℕ)). Then (reached (at n)) (Finally a (statements nothing ys))) h.is
+      ∙ ap {B = Statement} (λ (a : JavaAct) (name : Option (List ℕ)). Then (reached (at n)) (Finally m a)) last.is;
+}
 
 shown_continues : (n : ℕ) → Shows (continues n) (λ name. Then (reached (at n)) (Jumps Next))
 shown_continues n = record { is = statement_Simple nothing (at n) (simple.Continue None) [] }
 
 shown_do : (n : ℕ) {y : TExpr} {s : TStatement} {v : Said} {f : Statement} → Shows s f → Says y v →
     Shows (made.Do (at n) s y []) (λ name. Then (reached (at n)) (looped_do (round name f) v.test))
-shown_do n {y} {s} {v} {f} does h = record { is = statement_Do nothing (at n) s y []
-    ∙ ap {B = Statement} (λ (w : Said) (name : Option (List ℕ)). Then (reached (at n)) (looped_do (round name (statement nothing s)) w.test)) h.is
-    ∙ ap {B = Statement} (λ (g : Statement) (name : Option (List ℕ)). Then (reached (at n)) (looped_do (round name g) v.test)) does.is }
+shown_do n {y} {s} {v} {f} does h = record {
+  is = statement_Do nothing (at n) s y []
+      ∙ ap {B = Statement} (λ (w : Said) (name : Option (List ℕ)). Then (reached (at n)) (looped_do (round name (statement nothing s)) w.test)) h.is
+      ∙ ap {B = Statement} (λ (g : Statement) (name : Option (List ℕ)). Then (reached (at n)) (looped_do (round name g) v.test)) does.is;
+}
 
 record GroupShows (g : TCaseGroup) (h : CaseGroup) : Type 0 where
   is : group nothing g ≡ h
 
 shown_group : (l : TLabel) {xs : List TStatement} {m : JavaAct} → AllShow xs m → GroupShows (group_of l xs) (record { does = m; has_default = list_any is_default (l ∷ []) })
-shown_group l {xs} h = record { is = group_form nothing (record { labels = l ∷ []; statements = xs })
-    ∙ ap {B = CaseGroup} (λ (a : JavaAct). record { does = a; has_default = list_any is_default (l ∷ []) }) h.is }
+shown_group l {xs} h = record {
+  is = group_form nothing (record { labels = l ∷ []; statements = xs })
+      ∙ ap {B = CaseGroup} (λ (a : JavaAct). record { does = a; has_default = list_any is_default (l ∷ []) }) h.is;
+}
 
 shown_switch : (n : ℕ) {y : TExpr} {g : TCaseGroup} {v : Said} {h : CaseGroup} → Says y v → GroupShows g h →
     Shows (made.Switch (at n) y [] (g ∷ [])) (λ name. Then (reached (at n)) (Then (done v) (Block Behind (Switch (any_default (h ∷ [])) (groups (h ∷ []))))))
-shown_switch n {y} {g} {v} {h} says shows = record { is = statement_Switch nothing (at n) y [] (g ∷ [])
-    ∙ ap {B = Statement} (λ (w : Said) (name : Option (List ℕ)). Then (reached (at n)) (Then (done w) (Block Behind (Switch (any_default (group nothing g ∷ [])) (groups (group nothing g ∷ [])))))) says.is
-    ∙ ap {B = Statement} (λ (k : CaseGroup) (name : Option (List ℕ)). Then (reached (at n)) (Then (done v) (Block Behind (Switch (any_default (k ∷ [])) (groups (k ∷ [])))))) shows.is }
+shown_switch n {y} {g} {v} {h} says shows = record {
+  is = statement_Switch nothing (at n) y [] (g ∷ [])
+      ∙ ap {B = Statement} (λ (w : Said) (name : Option (List ℕ)). Then (reached (at n)) (Then (done w) (Block Behind (Switch (any_default (group nothing g ∷ [])) (groups (group nothing g ∷ [])))))) says.is
+      ∙ ap {B = Statement} (λ (k : CaseGroup) (name : Option (List ℕ)). Then (reached (at n)) (Then (done v) (Block Behind (Switch (any_default (k ∷ [])) (groups (k ∷ [])))))) shows.is;
+}
 
 -- what is told of the acts is told of the text
 told : {A : Type 0} (of : JavaAct → A) {xs : List TStatement} {m : JavaAct} {a : A} → AllShow xs m → of m ≡ a → of (statements nothing xs) ≡ a

@@ -1,12 +1,12 @@
 -- The laws of flows at Java's texts.
-use Rattle.std.proofs.Common.{◌≡◌, ◌≤◌, ℕ, Bool, true, false, not, ◌&&◌, ◌==◌, List, [], refl, ap, sym, ◌∙◌}
+use Rattle.std.proofs.Common.{◌≡◌, ◌≤◌, Bool, true, false, not, ◌&&◌, ◌==◌, [], refl}
 use Rattle.java_tree.specs.declared.tokens.Position.{Position}
 use Rattle.std.proofs.lemmas.Bool.{eq-eqb}
 use Rattle.java_typed.specs.declared.types.ClassRef.{ClassRef}
 use Rattle.java_typed.specs.declared.types.ClassRef.TheVariants as class
 use Rattle.java_typed.specs.declared.members.MemberRef.{MemberRef}
 use Rattle.flow.specs.Acts.{Does, Then}
-use Rattle.flow.specs.Analyses.{Reads, flow, unreachable}
+use Rattle.flow.specs.Analyses.{Reads}
 use Rattle.flow.specs.Standing.{hits, stands}
 use Rattle.flow.specs.Runs.{Events, End, FindsAssigned, NoneLater, Normal, ReachesNone, Runs, times}
 use Rattle.flow.proofs.LawsToCite.{unreachable_is_not_reached, not_reachable, ends_where_it_can}

@@ -1,6 +1,5 @@
 -- Which reads, assignments and statements of a text are at fault, and whether it can end.
-use Rattle.std.specs.Prelude.{Bool, true, false, not, List, []}
-use Rattle.java_tree.specs.declared.tokens.Position.{Position}
+use Rattle.std.specs.Prelude.{Bool, false, not, List}
 use Rattle.flow.specs.Analyses.{flow, assignment, unassignment, unreachable}
 use Rattle.java_flow.specs.Variables.{Variable, same_target, JavaUse, JavaAct}
 

@@ -1,6 +1,6 @@
 -- What is at fault with the fields of a class, over what is done when the class or an object is made (JLS 8.3.3, 8.6 to 8.8, 16).
-use Rattle.std.specs.Prelude.{ℕ, Bool, true, false, not, ◌&&◌, ◌||◌, ◌==◌, nat_lt, List, [], ◌∷◌, ◌++◌, map, Option, Some, None, slice_get, is_none, if◌then◌else◌}
-use Rattle.std.specs.List.{filter, list_any}
+use Rattle.std.specs.Prelude.{ℕ, Bool, true, false, not, ◌&&◌, ◌==◌, nat_lt, List, [], ◌∷◌, ◌++◌, map, Option, Some, None, slice_get, if◌then◌else◌}
+use Rattle.std.specs.List.{filter}
 use Rattle.java_tree.specs.declared.tokens.Position.{Position}
 use Rattle.java_typed.specs.declared.types.ClassRef.TheVariants as class
 use Rattle.java_typed.specs.declared.members.MemberRef.{MemberRef}

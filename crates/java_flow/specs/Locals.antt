@@ -1,8 +1,7 @@
 -- What is at fault with a local in its scope.
-use Rattle.std.specs.Prelude.{Bool, true, false, not, ◌&&◌, ◌||◌, ◌==◌, List, [], ◌∷◌, ◌++◌, map, if◌then◌else◌}
+use Rattle.std.specs.Prelude.{Bool, true, false, not, ◌&&◌, ◌||◌, ◌==◌, List, [], ◌∷◌, if◌then◌else◌}
 use Rattle.std.specs.List.{filter}
 use Rattle.java_tree.specs.declared.tokens.Position.{Position}
-use Rattle.java_typed.specs.declared.statements.TStatement.{TStatement}
 use Rattle.java_typed.specs.declared.units.TParam.{TParam}
 use Rattle.flow.specs.Acts.{Then, Does}
 use Rattle.flow.specs.Standing.{stands, stands_later}

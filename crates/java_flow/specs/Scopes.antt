@@ -1,7 +1,6 @@
 -- The locals of a text, each with its scope: what is done from its declaration on (JLS 6.3).
-use Rattle.std.specs.Prelude.{ℕ, Bool, true, false, not, List, [], ◌∷◌, ◌++◌, map, Option, Some, None, is_some}
+use Rattle.std.specs.Prelude.{ℕ, Bool, true, false, List, [], ◌∷◌, ◌++◌, map, Option, Some, None, is_some}
 use Rattle.java_tree.specs.declared.tokens.Position.{Position}
-use Rattle.java_typed.specs.declared.exprs.TLambda.{TLambda}
 use Rattle.java_typed.specs.declared.exprs.TLambdaParam.{TLambdaParam}
 use Rattle.java_typed.specs.declared.exprs.TExpr.{TExpr, fold-TExpr, map-TExpr}
 use Rattle.java_typed.specs.declared.exprs.TExpr.TheOpen.{TExpr-F}
@@ -15,7 +14,7 @@ use Rattle.java_typed.specs.declared.statements.TLock.TheVariants as lock
 use Rattle.java_typed.specs.declared.statements.TBody.{TBody, fold-TBody}
 use Rattle.java_typed.specs.declared.statements.TBody.TheOpen.{TBody-F, TStatement-F, TCaseGroup-F, TCatch-F}
 use Rattle.java_typed.specs.declared.statements.TStatement.{TStatement, fold-TStatement}
-use Rattle.flow.specs.Acts.{Skip, Does, Then, Switch, Groups, Done, Group}
+use Rattle.flow.specs.Acts.{Does, Then, Switch, Groups, Group}
 use Rattle.flow.specs.Analyses.{Assigns}
 use Rattle.java_flow.specs.Variables.{Local, JavaUse, JavaAct, Target}
 use Rattle.java_flow.specs.Expressions.{Said, said_by, done}
@@ -208,8 +207,10 @@ module _ (inner : ℕ → JavaAct) where
   case_by x = record { group = group_by inner (record { labels = x.labels; statements = map does_of x.statements }); opens = open_scopes x.statements; scopes = closed_scopes x.statements }
 
   abbrev pub caught_by : TCatch-F Inner Labeled GroupPiece Inner → Inner
-  caught_by x = record { does = Then (given x.caught) (rest x.statements);
-      scopes = record { local = of_declarator x.caught true; does = Then (given x.caught) (rest x.statements) } ∷ block_scopes x.statements }
+  caught_by x = record {
+    does = Then (given x.caught) (rest x.statements);
+    scopes = record { local = of_declarator x.caught true; does = Then (given x.caught) (rest x.statements) } ∷ block_scopes x.statements;
+  }
 
   abbrev pub opens_by : TStatement-F Inner Labeled GroupPiece Inner → List Scope
   opens_by (TStatement-F.Simple at x bodies) = simple_opens (acts bodies) x

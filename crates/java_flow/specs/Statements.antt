@@ -18,7 +18,7 @@ use Rattle.java_typed.specs.declared.statements.TStatement.{TStatement, fold-TSt
 use Rattle.flow.specs.Acts as a
 use Rattle.flow.specs.Acts.{Skip, Does, Asks, Jumps, Throws, Then, If, Forever, Block, Switch, Try, Finally, Constant, Groups, Done, Group}
 use Rattle.flow.specs.Analyses.{Assigns}
-use Rattle.java_flow.specs.Variables.{Variable, Local, Target, Behind, BehindLabel, Next, NextLabel, Out, JavaUse, JavaAct, JavaTest, reached}
+use Rattle.java_flow.specs.Variables.{Local, Target, Behind, BehindLabel, Next, NextLabel, Out, JavaUse, JavaAct, JavaTest, reached}
 use Rattle.java_flow.specs.Expressions.{said, done}
 
 abbrev pub Statement : Type 0

@@ -1,5 +1,5 @@
 -- What Java's texts read, assign and reach, and where they jump.
-use Rattle.std.specs.Prelude.{ℕ, Bool, true, false, ◌&&◌, ◌==◌, List, [], ◌∷◌}
+use Rattle.std.specs.Prelude.{ℕ, Bool, true, false, ◌&&◌, ◌==◌, List}
 use Rattle.std.specs.Str.{bytes_eq}
 use Rattle.java_tree.specs.declared.tokens.Position.{Position}
 use Rattle.java_typed.specs.declared.types.ClassRef.{ClassRef}

@@ -3,4 +3,6 @@
 
 mod laws;
 
-pub use laws::{assigned_once, control_comes, finals_are_assigned, reads_are_assigned, scopes_are_parts};
+pub use laws::{
+    assigned_once, control_comes, finals_are_assigned, reads_are_assigned, scopes_are_parts,
+};
