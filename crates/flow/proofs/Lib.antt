@@ -1,0 +1,11 @@
+pub mod States
+pub mod Quiet
+pub mod Sound
+pub mod Rows
+pub mod Laws
+pub mod Places
+pub mod Finals
+pub mod Kept
+pub mod Chains
+pub mod Codes
+pub mod LawsToCite

@@ -1,0 +1,5 @@
+pub mod Targets
+pub mod Runs
+pub mod Forms
+pub mod Pieces
+pub mod Rows
