@@ -90,7 +90,7 @@ fn argument(
 
 /// The type with the arguments of a class in the place of its parameters (JLS 4.5).
 #[cycle(putting)]
-#[tactic(auto, unfolding(crate::specs::Types::put))]
+#[tactic(auto, unfolding(java_type_relations::specs::Types::put))]
 pub fn put(alloc: Global, args: Arguments<'_>, x: &TType) -> Result<TType, NoMemory>
     ensures { IfOk result (λ r. r ≡ s.put args.entry.class args.entry.list.now x.now) }
 {

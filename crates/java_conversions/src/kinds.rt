@@ -31,7 +31,7 @@ pub fn is_within(from: Simple, to: Simple) -> bool
 }
 
 /// A type as a primitive one, where it is that.
-#[tactic(auto, unfolding(crate::specs::Kinds::simple_of))]
+#[tactic(auto, unfolding(java_type_relations::specs::Kinds::simple_of))]
 pub fn simple_of(x: TypeView<'_>) -> Option<Simple>
     ensures { result ≡ s.simple_of (shown x.entry) }
 {

@@ -13,7 +13,7 @@ struct Row<'a> {
 
 /// Whether two types are the same (JLS 4.3.4).
 #[cycle(same)]
-#[tactic(auto, unfolding(crate::specs::Types::same))]
+#[tactic(auto, unfolding(java_type_relations::specs::Types::same))]
 pub fn is_same(a: &TType, b: TypeView<'_>) -> bool
     ensures { result ≡ s.same a.now (shown b.entry) }
 {
@@ -55,7 +55,7 @@ pub fn same_list(xs: &[TType], ys: &[TType]) -> bool
 }
 
 /// As `is_same`, of two views.
-#[tactic(auto, unfolding(crate::specs::Types::same))]
+#[tactic(auto, unfolding(java_type_relations::specs::Types::same))]
 pub fn is_same_view(a: TypeView<'_>, b: TypeView<'_>) -> bool
     ensures { result ≡ s.same (shown a.entry) (shown b.entry) }
 {

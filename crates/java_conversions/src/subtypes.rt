@@ -21,7 +21,7 @@ pub struct Apart<'a> {
 }
 
 /// What two components are within the arrays that both of them are.
-#[tactic(auto, unfolding(crate::specs::Subtypes::components))]
+#[tactic(auto, unfolding(java_type_relations::specs::Subtypes::components))]
 fn components<'a>(a: &'a TType, b: TypeView<'a>) -> Apart<'a>
     ensures { parts result ≡ s.components a.now (shown b.entry) }
 {

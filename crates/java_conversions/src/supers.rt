@@ -170,7 +170,7 @@ fn climb(
 
 /// The first supertype of a type that is of a class or is a type parameter, the type itself before all others, and those
 /// that take fewer steps before those that take more (JLS 4.10.2). None where it has none.
-#[tactic(auto, unfolding(crate::specs::Supers::supertype))]
+#[tactic(auto, unfolding(java_type_relations::specs::Supers::supertype))]
 pub fn supertype(
     alloc: Global,
     heads: &Heads,

@@ -1,13 +1,11 @@
 -- Of subtyping, unboxing and boxing at most one converts a type to another.
-use Rattle.std.proofs.Common.{◌≡◌, ℕ, Bool, true, false, [], List, Option, Some, None, refl, sym, ap, ◌∙◌}
+use Rattle.std.proofs.Common.{◌≡◌, true, false, [], List, Option, Some, None, refl, ap, ◌∙◌}
 use Rattle.j2k_base.specs.declared.constants.Kind.{Kind}
 use Rattle.java_typed.specs.declared.types.ClassRef.{ClassRef}
 use Rattle.java_typed.specs.declared.types.TType.{TType, out-TType}
 use Rattle.java_typed.specs.declared.types.TType.TheOpen.{TType-F}
-use Rattle.java_typed.specs.declared.types.TType.TheVariants as t
 use Rattle.java_type_relations.specs.declared.heads.Heads.{Heads}
 use Rattle.java_type_relations.specs.declared.kinds.Simple.{Simple}
-use Rattle.java_type_relations.specs.declared.kinds.Simple.TheVariants as simple
 use Rattle.java_type_relations.specs.Kinds.{box_of, simple_by, simple_of, unboxed, unboxed_by}
 use Rattle.java_type_relations.specs.Subtypes.{apart_forms, below_forms, below_parts, is_subtype}
 use Rattle.java_type_relations.specs.Contexts.{both_within, boxed_below, class_type, is_boxed, is_unboxed}
