@@ -1,0 +1,6 @@
+mod Lists
+mod Steps
+mod Levels
+mod Ways
+mod Accessible
+mod Picked
