@@ -3,4 +3,5 @@ mod Steps
 mod Levels
 mod Ways
 mod Accessible
+mod Above
 mod Picked

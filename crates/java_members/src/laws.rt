@@ -1,8 +1,9 @@
 //! What the members of classes promise.
 
-ghost use Rattle.std.specs.Prelude.{◌≡◌, ◌≤◌, ℕ, List};
-ghost use Rattle.java_members.specs.Access.{IsAccessible};
+ghost use Rattle.std.specs.Prelude.{◌≡◌, ◌≤◌, ℕ, List, true};
+ghost use Rattle.java_members.specs.Access.{IsAccessible, is_accessible};
 ghost use Rattle.java_members.specs.Members.{HasMember, IsIn, found, members};
+ghost use Rattle.java_members.specs.declared.classes.Access.{Access};
 ghost use Rattle.java_members.specs.declared.classes.Access.TheVariants.{Private};
 ghost use Rattle.java_members.specs.declared.classes.Class.{Class};
 ghost use Rattle.java_members.specs.declared.classes.Member.{Member};
@@ -24,4 +25,9 @@ pub fn inherited_are_accessible()
 /// A private member is one of the class that declares it alone (JLS 6.6.1, 8.2).
 pub fn private_members()
     ensures { (table : List Class) (sort : Sort) (name : List ℕ) (k a c : ℕ) (member : Member) → HasMember table sort name k a c member → member.access ≡ Private → a ≡ c }
+{}
+
+/// What is found to be accessible may be named (JLS 6.6.1, 6.6.2).
+pub fn what_is_accessible()
+    ensures { (table : List Class) (steps a c : ℕ) (x : Access) → is_accessible table steps a c x ≡ true → IsAccessible table a c x }
 {}

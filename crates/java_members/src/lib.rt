@@ -10,4 +10,4 @@ mod walks;
 pub use access::is_accessible;
 pub use classes::{Access, Class, Declared, Member, Sort};
 pub use inheritance::{Found, members};
-pub use laws::{inherited_are_accessible, members_are_found, private_members};
+pub use laws::{inherited_are_accessible, members_are_found, private_members, what_is_accessible};
