@@ -1,8 +1,7 @@
 -- The test of what may be named tells what may be named.
-use Rattle.std.proofs.Common.{◌≡◌, ◌⊎◌, inl, inr, ℕ, zero, suc, Bool, true, false, ◌||◌, List, [], ◌∷◌, Option, Some, None, refl, ap, sym, subst, ◌∙◌}
+use Rattle.std.proofs.Common.{◌≡◌, ◌⊎◌, inl, inr, ℕ, suc, Bool, true, false, ◌||◌, List, [], ◌∷◌, Option, Some, None, refl, subst}
 use Rattle.std.specs.Prelude.{slice_get, nat_eq}
 use Rattle.std.specs.List.{list_any}
-use Rattle.std.specs.Str.{bytes_eq}
 use Rattle.std.proofs.lemmas.Bool.Decides.{Decides-eqb}
 use Rattle.std.proofs.lemmas.Slice.Eq.{bytes_eq-Decides}
 use Rattle.java_members.specs.declared.classes.Access.{Access}
@@ -12,7 +11,7 @@ use Rattle.java_members.specs.declared.classes.Sort.TheVariants as sort
 use Rattle.java_members.specs.declared.walks.Reached.{Reached}
 use Rattle.java_members.specs.Members.{IsIn, above}
 use Rattle.java_members.specs.Access.{IsAbove, Itself, Above, AreOfOnePackage, IsAccessible, homes_are_same, is_of_one_package, is_above, is_accessible}
-use Rattle.java_members.proofs.Levels.{false_true, Way, Start, Further, Goes, Up, above_way}
+use Rattle.java_members.proofs.Levels.{false_true, Way, Start, Further, Up, above_way}
 
 either : (a b : Bool) → (a || b) ≡ true → (a ≡ true) ⊎ (b ≡ true)
 either true b h = inl refl

@@ -1,6 +1,5 @@
 -- What a class has may be named in it.
-use Rattle.std.proofs.Common.{◌≡◌, ◌⊎◌, inl, inr, ℕ, zero, suc, Bool, true, false, ◌&&◌, ◌||◌, not, List, Some, refl, ap, sym, subst, ◌∙◌}
-use Rattle.std.specs.Prelude.{slice_get}
+use Rattle.std.proofs.Common.{◌≡◌, inr, ℕ, suc, Bool, true, false, ◌&&◌, ◌||◌, not, List, refl, subst}
 use Rattle.std.specs.Str.{bytes_eq}
 use Rattle.std.proofs.lemmas.Slice.Eq.{bytes_eq-Decides}
 use Rattle.java_members.specs.declared.classes.Access.{Access}
@@ -8,7 +7,7 @@ use Rattle.java_members.specs.declared.classes.Access.TheVariants as access
 use Rattle.java_members.specs.declared.classes.Class.{Class}
 use Rattle.java_members.specs.declared.classes.Member.{Member}
 use Rattle.java_members.specs.declared.classes.Sort.{Sort}
-use Rattle.java_members.specs.Members.{HasMember, Own, Inherited, stays, passes, is_open, is_of_package, is_same_package}
+use Rattle.java_members.specs.Members.{HasMember, Own, Inherited, stays, is_open, is_of_package, is_same_package}
 use Rattle.java_members.specs.Access.{IsAbove, Itself, Above, AreOfOnePackage, IsAccessible}
 use Rattle.java_members.proofs.Levels.{false_true}
 

@@ -1,5 +1,5 @@
 -- The members of the numbers of a name are those of the name.
-use Rattle.std.proofs.Common.{◌≡◌, ℕ, zero, suc, ◌+◌, ◌-◌, ◌<◌, ◌≤◌, Bool, true, false, List, [], ◌∷◌, ◌++◌, map, length, Option, Some, None, refl, ap, sym, subst, ◌∙◌, arith, cond, append_assoc, append-nil}
+use Rattle.std.proofs.Common.{◌≡◌, ℕ, ◌+◌, Bool, true, false, List, [], ◌∷◌, ◌++◌, length, Some, refl, ap, subst, arith, append_assoc}
 use Rattle.std.specs.Prelude.{slice_get, not}
 use Rattle.std.specs.List.{filter, list_any}
 use Rattle.std.specs.Str.{bytes_eq}
@@ -7,7 +7,7 @@ use Rattle.java_tables.specs.Names.{numbers_of}
 use Rattle.java_members.specs.declared.classes.Member.{Member}
 use Rattle.java_members.specs.Lists.{is_nil}
 use Rattle.java_members.specs.Members.{has_name}
-use Rattle.java_members.specs.Numbers.{numbered, if_there, picked}
+use Rattle.java_members.specs.Numbers.{numbered, picked}
 use Rattle.java_members.proofs.Levels.{false_true}
 
 -- the member behind some others

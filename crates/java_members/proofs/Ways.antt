@@ -1,11 +1,9 @@
 -- What is found is what a class declares or inherits.
-use Rattle.std.proofs.Common.{◌≡◌, ◌⊎◌, inl, inr, ℕ, zero, suc, ◌+◌, ◌<◌, ◌≤◌, Bool, true, false, ◌&&◌, ◌||◌, not, List, [], ◌∷◌, ◌++◌, map, Option, Some, None, refl, ap, sym, subst, ◌∙◌, arith}
+use Rattle.std.proofs.Common.{◌≡◌, ◌⊎◌, inl, inr, ℕ, zero, suc, ◌≤◌, Bool, true, false, ◌&&◌, ◌||◌, not, List, [], ◌∷◌, Option, Some, None, refl, ap, sym, subst, ◌∙◌}
 use Rattle.std.specs.Prelude.{slice_get}
 use Rattle.std.specs.List.{filter}
 use Rattle.std.specs.Str.{bytes_eq}
 use Rattle.std.proofs.lemmas.Slice.Eq.{bytes_eq-Decides}
-use Rattle.java_members.specs.declared.classes.Access.{Access}
-use Rattle.java_members.specs.declared.classes.Access.TheVariants as access
 use Rattle.java_members.specs.declared.classes.Class.{Class}
 use Rattle.java_members.specs.declared.classes.Member.{Member}
 use Rattle.java_members.specs.declared.classes.Sort.{Sort}
@@ -13,7 +11,7 @@ use Rattle.java_members.specs.declared.walks.Reached.{Reached}
 use Rattle.java_members.specs.declared.inheritance.Found.{Found}
 use Rattle.java_members.specs.Members.{IsIn, HasMember, Own, Inherited, named, hides, is_open, is_of_package, stays, passes, is_same_package, home_is, found, own_by, inherited_by, inherited, members, above}
 use Rattle.java_members.proofs.Lists.{in_left, in_right, in_split, in_map, map_in, in_filter, filter_in}
-use Rattle.java_members.proofs.Levels.{false_true, at, step, Goes, Up, Way, Start, Further, above_complete, above_way}
+use Rattle.java_members.proofs.Levels.{false_true, at, Up, Way, Start, Further, above_complete, above_way}
 
 -- ---- the test of what passes, in truth values
 

@@ -1,12 +1,11 @@
 -- From where a member may be named (JLS 6.6).
-use Rattle.std.specs.Prelude.{◌≡◌, ◌⊎◌, ℕ, suc, zero, Bool, true, false, ◌||◌, nat_eq, List, [], ◌∷◌, Option, Some, None, slice_get}
+use Rattle.std.specs.Prelude.{◌≡◌, ◌⊎◌, ℕ, Bool, true, false, ◌||◌, nat_eq, List, [], Option, Some, slice_get}
 use Rattle.std.specs.List.{list_any}
 use Rattle.std.specs.Str.{bytes_eq}
 use Rattle.java_members.specs.declared.classes.Access.{Access}
 use Rattle.java_members.specs.declared.classes.Access.TheVariants as access
 use Rattle.java_members.specs.declared.classes.Class.{Class}
 use Rattle.java_members.specs.declared.classes.Sort.TheVariants as sort
-use Rattle.java_members.specs.declared.walks.Reached.{Reached}
 use Rattle.java_members.specs.Members.{IsIn, above}
 
 abbrev pub homes_are_same : Option Class → Option Class → Bool
