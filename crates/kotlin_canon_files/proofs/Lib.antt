@@ -1,0 +1,4 @@
+mod Sides
+mod Paired
+mod Cuts
+pub mod LawsToCite
