@@ -1,10 +1,10 @@
 #!/usr/bin/env python3
 """The table of small projects with their first fault of names, and what javac says of each: table.py [FOLDER].
 
-projects.txt holds a project a line: the code, or `none`; `own` where javac takes what this project's own rules refuse; then
-`path=text` for each file. The mark § stands before the place of the fault. Run it at the top. It writes stdin and stdout of
-the program java_names_cases, and where there is a javac, verdicts.txt: what is wanted, javac's verdict, the row. A last line
-says which rows don't agree: javac refuses where N1, N2, N3, N4 or N6 is wanted, and takes the project where nothing, N0 or N5 is.
+projects.txt holds a project a line: the code, or `none`; `own` where javac takes what this project's own rules refuse; `later`
+where the program doesn't find the fault yet; then `path=text` for each file. The mark § stands before the place of the fault.
+Run it at the top. It writes stdin and stdout of the program java_names_cases, of the rows that aren't for later, and where
+there is a javac, verdicts.txt: what is wanted, javac's verdict, the row. A last line says which rows don't agree: javac refuses where N1, N2, N3, N4 or N6 is wanted, and takes the project where nothing, N0 or N5 is.
 """
 import os
 import shutil
@@ -13,19 +13,19 @@ import sys
 import tempfile
 
 HERE = os.path.dirname(os.path.abspath(__file__))
-CASES = os.path.join(HERE, "..", "..", "crates", "java_names_cases")  # until that program is there, the table stays here
+CASES = os.path.join(HERE, "..", "..", "crates", "java_names_cases")
 MARK = "§"
 
 
 def projects():
-    """Headings, empty lines, and rows as (code, is_own, [(path, text)])."""
+    """Headings, empty lines, and rows as (code, words, [(path, text)])."""
     for line in open(os.path.join(HERE, "projects.txt"), encoding="utf-8").read().split("\n"):
         if not line or line.startswith("#"):
             yield line
         else:
             head, *files = line.split(" | ")
-            code, *own = head.split(" ")
-            yield code, bool(own), [tuple(part.replace("\\n", "\n").split("=", 1)) for part in files]
+            code, *words = head.split(" ")
+            yield code, words, [tuple(part.replace("\\n", "\n").split("=", 1)) for part in files]
 
 
 def answer(code, files):
@@ -61,13 +61,12 @@ def verdicts(rows, folder):
 def main():
     table = list(projects())
     rows = [row for row in table if not isinstance(row, str)]
-    cases = CASES if os.path.isdir(CASES) else HERE
-    with open(os.path.join(cases, "stdin"), "w", encoding="utf-8") as out, open(os.path.join(cases, "stdout"), "w", encoding="utf-8") as told:
+    with open(os.path.join(CASES, "stdin"), "w", encoding="utf-8") as out, open(os.path.join(CASES, "stdout"), "w", encoding="utf-8") as told:
         for row in table[:-1] if table[-1] == "" else table:
             if isinstance(row, str):
                 print(row, file=out)
                 print(row, file=told)
-            else:
+            elif "later" not in row[1]:
                 code, _, files = row
                 print("project " + "\\x1f".join(f"{path}={text}" for path, text in bare(files)).replace("\n", "\\n"), file=out)
                 print(answer(code, files), file=told)
@@ -77,8 +76,8 @@ def main():
         said = verdicts(rows, sys.argv[1] if len(sys.argv) > 1 else made)
     apart = []
     with open(os.path.join(HERE, "verdicts.txt"), "w", encoding="utf-8") as out:
-        for (code, is_own, files), verdict in zip(rows, said):
-            wanted = answer(code, files)
+        for (code, words, files), verdict in zip(rows, said):
+            wanted, is_own = answer(code, files), "own" in words
             refused = code in ("N1", "N2", "N3", "N4", "N6") and not is_own
             row = " | ".join(f"{path}={text}" for path, text in bare(files)).replace("\n", "\\n")
             print(f"{wanted}{' own' if is_own else ''}\t{verdict}\t{row}", file=out)
