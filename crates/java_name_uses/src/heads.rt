@@ -13,7 +13,8 @@ use java_statement_grammar::{
 use java_tree::{JExpr, Position};
 use std::alloc::Global;
 
-fn initial(alloc: Global, out: &mut Uses, x: &Option<JValue>) -> Result<(), NoMemory>
+/// The value of a variable, where one stands (JLS 14.4.2).
+pub fn initial(alloc: Global, out: &mut Uses, x: &Option<JValue>) -> Result<(), NoMemory>
     ensures { IfOk result (λ u. out.new ≡ out.old ++ s.initial x.now) }
 {
     match x {

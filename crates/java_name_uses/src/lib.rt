@@ -8,6 +8,6 @@ mod types;
 mod uses;
 
 pub use exprs::expression;
-pub use heads::{for_head, label, lock, simple};
-pub use types::{declared_type, parameter, type_list, type_name};
+pub use heads::{for_head, initial, label, lock, simple};
+pub use types::{declared_type, parameter, parameters, type_list, type_name};
 pub use uses::{Naming, Sign, Use, Uses, Word, put_name, put_sign, put_word};

@@ -87,7 +87,8 @@ fn variables(alloc: Global, out: &mut Uses, xs: &[JParam]) -> Result<(), NoMemor
     Ok(())
 }
 
-fn parameters(alloc: Global, out: &mut Uses, xs: &[JTypedParam]) -> Result<(), NoMemory>
+/// Several parameters with their types.
+pub fn parameters(alloc: Global, out: &mut Uses, xs: &[JTypedParam]) -> Result<(), NoMemory>
     ensures { IfOk result (λ u. out.new ≡ out.old ++ s.all (map s.parameter xs.now)) }
 {
     for x in xs {

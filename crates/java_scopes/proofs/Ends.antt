@@ -1,18 +1,18 @@
 -- The end of a scope.
-use Rattle.std.proofs.Common.{◌≡◌, ℕ, List, [], ◌∷◌, length, take, refl, ap, ◌∙◌}
+use Rattle.std.proofs.Common.{◌≡◌, List, [], ◌∷◌, length, take, refl, ap, ◌∙◌}
 use Rattle.std.specs.Prelude.{reverse}
 use Rattle.std.proofs.lemmas.List.{reverse-append}
 use Rattle.std.proofs.Math.Seq.{take-append_seam}
 use Rattle.java_scopes.specs.declared.states.Frame.{Frame}
 use Rattle.java_scopes.specs.declared.states.Opened.{Opened}
 use Rattle.java_scopes.specs.declared.states.State.{State}
-use Rattle.java_scopes.specs.Scopes.{closed, closed_by, is_behind}
+use Rattle.java_scopes.specs.Scopes.{Locals, closed, closed_by, is_behind}
 
 twice : (xs : List Opened) → reverse (reverse xs) ≡ xs
 twice [] = refl
 twice (x ∷ xs) = ap reverse (reverse-append (x ∷ []) xs) ∙ reverse-append (reverse xs) (x ∷ []) ∙ ap (λ l. x ∷ l) (twice xs)
 
-module _ (s inside : State) (frame : Frame) (more : List (List ℕ)) (h : is_behind s frame more inside) where
+module _ (s inside : State) (frame : Frame) (more : Locals) (h : is_behind s frame more inside) where
   abbrev last : Opened
   last = record { frame = frame; locals = length s.locals }
 

@@ -1,1 +1,3 @@
 pub mod Ends
+pub mod Effects
+pub mod Targets

@@ -4,5 +4,8 @@
 mod laws;
 mod states;
 
-pub use laws::{local_is_meant, scope_ends};
+pub use laws::{
+    jumps_have_targets, labels_are_around, local_is_meant, locals_are_apart, locals_are_declared,
+    scope_ends,
+};
 pub use states::{Answer, Current, Frame, Opened, State};
