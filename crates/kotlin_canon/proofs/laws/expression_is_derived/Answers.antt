@@ -1,5 +1,0 @@
-use Rattle.kotlin_canon.proofs.Derived.{expression_derived}
-use Rattle.kotlin_canon.proofs.laws.expression_is_derived.Goals as goal
-
-pub returns : goal.returns
-returns c = λ x readable. expression_derived x readable

@@ -1,5 +1,0 @@
-use Rattle.kotlin_canon.proofs.Derived.{type_derived}
-use Rattle.kotlin_canon.proofs.laws.type_is_derived.Goals as goal
-
-pub returns : goal.returns
-returns c = λ x readable. type_derived x readable

@@ -1,0 +1,3 @@
+-- What other crates may cite.
+pub use Rattle.kotlin_canonical_text.proofs.Derived.{type_derived, expression_derived, block_derived}
+pub use Rattle.kotlin_canonical_text.proofs.Classes.{class_spelled}
