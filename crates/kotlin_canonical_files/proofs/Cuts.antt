@@ -142,3 +142,8 @@ class_ends c ts has = subst (Ends (Spot.Inside 0)) (letters_sides ts) (derived_e
 -- behind the tokens of a class a piece ends, and nowhere before
 pub class_cut : (c : KClass) (p ts zs : Tokens) → SpellsClass c ts → pieces 0 p (ts ++ zs) ≡ (p ++ ts) ∷ pieces 0 [] zs
 class_cut c p ts zs has = piece_ends 0 p ts zs (class_ends c ts has)
+
+-- a class has tokens
+pub class_is_some : (c : KClass) → SpellsClass c [] → ⊥
+unfolding Ends
+class_is_some c has = class_ends c [] has

@@ -48,7 +48,7 @@ use Rattle.kotlin_canonical_text.proofs.Firsts.{First, begins_name, begins_more,
 use Rattle.kotlin_canonical_text.proofs.Types.{both, not_true, type_good, type_shown, Tight}
 use Rattle.kotlin_canonical_text.proofs.Statements.{typed}
 use Rattle.kotlin_canonical_text.proofs.Members.{AllKept, member_kept, members_braced, member_at, curly_behind}
-use Rattle.kotlin_canonical_text.proofs.Modifiers.{Lead, leads, modifiers_read}
+use Rattle.kotlin_canonical_text.proofs.Modifiers.{Lead, leads, modifiers_lead, modifiers_read}
 use Rattle.kotlin_canonical_text.proofs.Steps.{Der, done, way, take, take_blank, act}
 use Rattle.kotlin_canonical_text.proofs.Acts.{place, nm, kind, acts_AddComma}
 use Rattle.kotlin_canonical_text.proofs.MemberActs.{mods, typed as typed_built, tpl, tpl_only, tparams, spl, spl_only, supers, cword, klass, acts_NoModifiers, acts_Typed, acts_Untyped, acts_NoTypeParams, acts_AddTypeParam, acts_TypeParams, acts_NoneOfTypeParams, acts_NoSupers, acts_AddSuper, acts_AddCalledSuper, acts_Supers, acts_NoneOfSupers, acts_ClassWord, acts_FunClassWord, acts_Class}
@@ -316,20 +316,31 @@ class_apart M W N T S xs r =
     ∙ append_assoc (M ++ W) N (T ++ (S ++ (block_of xs ++ r))) ∙ append_assoc M W (N ++ (T ++ (S ++ (block_of xs ++ r))))
     ∙ ap (λ u. M ++ (W ++ (N ++ (T ++ (S ++ u))))) (append_assoc (fixed opened_glyphs ++ lines xs) (fixed closed_glyphs) r)
 
-bare_apart : (x : KClass) → bare_class_roles x ≡ (modifiers_roles x.modifiers ++ (fixed (class_words x.word) ++ (Role.Name x.name.name ∷ (type_params_roles x.params ++ (supers_roles x.supers ++ braces (map member x.members) [])))))
+bare_behind : (x : KClass) (r : Roles) → (bare_class_roles x ++ r) ≡ (modifiers_roles x.modifiers ++ (fixed (class_words x.word) ++ (Role.Name x.name.name ∷ (type_params_roles x.params ++ (supers_roles x.supers ++ braces (map member x.members) r)))))
 unfolding bare_class_roles
-bare_apart x =
-    sym (append-nil (bare_class_roles x))
-    ∙ class_apart (modifiers_roles x.modifiers) (fixed (class_words x.word)) (name x.name.name) (type_params_roles x.params) (supers_roles x.supers) (map member_roles x.members) []
-    ∙ ap (λ u. modifiers_roles x.modifiers ++ (fixed (class_words x.word) ++ (Role.Name x.name.name ∷ (type_params_roles x.params ++ (supers_roles x.supers ++ (Role.Fixed g.Blank ∷ Role.Fixed (g.Mark m.OpenCurly) ∷ Role.Fixed g.Deeper ∷ (lines u ++ (fixed closed_glyphs ++ []))))))))
+bare_behind x r =
+    class_apart (modifiers_roles x.modifiers) (fixed (class_words x.word)) (name x.name.name) (type_params_roles x.params) (supers_roles x.supers) (map member_roles x.members) r
+    ∙ ap (λ u. modifiers_roles x.modifiers ++ (fixed (class_words x.word) ++ (Role.Name x.name.name ∷ (type_params_roles x.params ++ (supers_roles x.supers ++ (Role.Fixed g.Blank ∷ Role.Fixed (g.Mark m.OpenCurly) ∷ Role.Fixed g.Deeper ∷ (lines u ++ (fixed closed_glyphs ++ r))))))))
     (sym (members_shown x.members))
 
-pub class_spelled : (x : KClass) → class_readable x ≡ true → SpellsClass (class_tree x) (tokens gap.Plain (bare_class_roles x))
-unfolding class_readable letters tokens with_class last_class empty
-class_spelled x readable =
+-- a class stands first
+pub class_leads : (x : KClass) (r : Roles) → Lead (bare_class_roles x ++ r)
+class_leads x r =
+    let z = Role.Name x.name.name ∷ (type_params_roles x.params ++ (supers_roles x.supers ++ braces (map member x.members) r)) in
+    subst Lead (sym (bare_behind x r)) (modifiers_lead x.modifiers (fixed (class_words x.word) ++ z) (class_lead x.word z))
+
+pub class_read : (x : KClass) (s : Symbols) (b : Built) (r : Roles) (new : Built) → class_readable x ≡ true
+    → Der s (klass (class_tree x) b) (L gap.Plain r) new → Der (y.Form f.ClassForm ∷ s) b (L gap.Plain (bare_class_roles x ++ r)) new
+unfolding class_readable
+class_read x s b r new readable h =
     let a = both (not (bytes_eq x.name.name (codes "run")) && params_of_type x.params && supers_readable x.supers) (all_readable (map member x.members)) readable in
-    let b = both (not (bytes_eq x.name.name (codes "run")) && params_of_type x.params) (supers_readable x.supers) a.0 in
-    let c = both (not (bytes_eq x.name.name (codes "run"))) (params_of_type x.params) b.0 in
+    let c = both (not (bytes_eq x.name.name (codes "run")) && params_of_type x.params) (supers_readable x.supers) a.0 in
+    let d = both (not (bytes_eq x.name.name (codes "run"))) (params_of_type x.params) c.0 in
+    subst (λ u. Der (y.Form f.ClassForm ∷ s) b (L gap.Plain u) new) (sym (bare_behind x r)) (class_parts x s b r new (not_true _ d.0) d.1 c.1 a.1 h)
+
+pub class_spelled : (x : KClass) → class_readable x ≡ true → SpellsClass (class_tree x) (tokens gap.Plain (bare_class_roles x))
+unfolding letters tokens with_class last_class empty
+class_spelled x readable =
     let built = klass (class_tree x) empty in
-    let d = subst (λ u. Der (start f.ClassForm) empty (L gap.Plain u) built) (sym (bare_apart x)) (class_parts x [] empty [] built (not_true _ c.0) c.1 b.1 a.1 (done built)) in
+    let d = subst (λ u. Der (start f.ClassForm) empty (L gap.Plain u) built) (append-nil (bare_class_roles x)) (class_read x [] empty [] built readable (done built)) in
     record { built = built; makes = record { steps = d.steps; derives = d.derives }; holds = (empty, refl) }

@@ -5,6 +5,7 @@ mod Derived
 mod Expressions
 mod Firsts
 mod Forms
+mod Heads
 mod Induction
 mod Lambdas
 pub mod LawsToCite

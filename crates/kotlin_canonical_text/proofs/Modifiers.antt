@@ -287,7 +287,7 @@ ranked_read (x ∷ ms) r xs s b z new l h =
 
 -- ---- all modifiers, in their order
 
-modifiers_apart : (ms : List KModifier) (z : Roles) → (modifiers_roles ms ++ z) ≡ (ranked ms 0 ++ (ranked ms 1 ++ (ranked ms 2 ++ (ranked ms 3 ++ (ranked ms 4 ++ (ranked ms 5 ++ (ranked ms 6 ++ (ranked ms 7 ++ (ranked ms 8 ++ z)))))))))
+pub modifiers_apart : (ms : List KModifier) (z : Roles) → (modifiers_roles ms ++ z) ≡ (ranked ms 0 ++ (ranked ms 1 ++ (ranked ms 2 ++ (ranked ms 3 ++ (ranked ms 4 ++ (ranked ms 5 ++ (ranked ms 6 ++ (ranked ms 7 ++ (ranked ms 8 ++ z)))))))))
 modifiers_apart ms z =
     append_assoc (((((((ranked ms 0 ++ ranked ms 1) ++ ranked ms 2) ++ ranked ms 3) ++ ranked ms 4) ++ ranked ms 5) ++ ranked ms 6) ++ ranked ms 7) (ranked ms 8) z
     ∙ append_assoc ((((((ranked ms 0 ++ ranked ms 1) ++ ranked ms 2) ++ ranked ms 3) ++ ranked ms 4) ++ ranked ms 5) ++ ranked ms 6) (ranked ms 7) (ranked ms 8 ++ z)

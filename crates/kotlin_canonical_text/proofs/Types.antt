@@ -72,7 +72,7 @@ pub record TypeGood (x : Piece KType) : Type 0 where
 abbrev pub path : List KDotted → Roles
 path xs = joined (map dotted_roles xs)
 
-tight_path : (xs : List KDotted) (r : Roles) → Tight r → Tight (path xs ++ r)
+pub tight_path : (xs : List KDotted) (r : Roles) → Tight r → Tight (path xs ++ r)
 unfolding letters tokens mark_kind
 tight_path [] r tight = tight
 tight_path (x ∷ xs) r tight = (refl, refl)
@@ -82,7 +82,7 @@ unfolding letters tokens mark_kind
 calm_path n [] r other = λ is. absurd (not_run n other is)
 calm_path n (x ∷ xs) r other = λ is. refl
 
-abbrev more_dots : KQualified → List KDotted → KQualified
+abbrev pub more_dots : KQualified → List KDotted → KQualified
 more_dots q xs = record { first = q.first; rest = q.rest ++ map unplaced_dotted xs }
 
 dots_plain : (xs : List KDotted) (q : KQualified) (n : List ℕ) (s : Symbols) (b : Built) (r : Roles) (new : Built) → bytes_eq (last_behind n xs) (codes "run") ≡ false → Tight r

@@ -1,4 +1,5 @@
 pub mod Canonical
 pub mod Derived
+pub mod Heads
 pub mod Members
 pub mod Tokens

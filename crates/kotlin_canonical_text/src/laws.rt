@@ -5,10 +5,13 @@ ghost use Rattle.kotlin_tree.specs.declared.types.KType.{KType};
 ghost use Rattle.kotlin_tree.specs.declared.expressions.KExpr.{KExpr};
 ghost use Rattle.kotlin_tree.specs.declared.statements.KStmt.{KStmt};
 ghost use Rattle.kotlin_tree.specs.declared.files.KClass.{KClass};
+ghost use Rattle.kotlin_tree.specs.declared.files.KFile.{KFile};
 ghost use Rattle.kotlin_tree.specs.declared.tokens.Gap.TheVariants as gap;
-ghost use Rattle.kotlin_grammar.specs.Reading.{SpellsClass};
+ghost use Rattle.kotlin_grammar.specs.Reading.{SpellsClass, SpellsHead};
+ghost use Rattle.kotlin_grammar.specs.Files.{begun};
 ghost use Rattle.kotlin_canonical_text.specs.Tokens.{tokens};
 ghost use Rattle.kotlin_canonical_text.specs.Members.{class_tree, class_readable, bare_class_roles};
+ghost use Rattle.kotlin_canonical_text.specs.Heads.{head_tree, first_readable, head_roles};
 ghost use Rattle.kotlin_layout.specs.Roles.{block};
 ghost use Rattle.kotlin_layout.specs.Parens.{free_place};
 ghost use Rattle.kotlin_layout.specs.Shown.{type_roles, expression_roles, statement_roles};
@@ -34,4 +37,9 @@ pub fn block_is_derived()
 /// The tokens of the canonical text of a class, without the comments before it, spell its canonical tree.
 pub fn class_is_spelled()
     ensures { (x : KClass) → class_readable x ≡ true → SpellsClass (class_tree x) (tokens gap.Plain (bare_class_roles x)) }
+{}
+
+/// The tokens of the canonical text of a file as far as its first class spell the canonical tree of that.
+pub fn head_is_spelled()
+    ensures { (x : KFile) → first_readable x.classes ≡ true → SpellsHead (head_tree x) (begun (tokens gap.Plain (head_roles x))) }
 {}

@@ -1,0 +1,7 @@
+mod Actions
+pub mod LawsToCite
+mod Letters
+mod Lifted
+mod Parts
+mod Told
+mod Trees

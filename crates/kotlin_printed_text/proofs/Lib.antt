@@ -1,0 +1,3 @@
+pub mod LawsToCite
+mod Files
+mod Splits
