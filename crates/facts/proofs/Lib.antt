@@ -1,0 +1,5 @@
+pub mod Bools
+pub mod LaidItems
+pub mod LaidClasses
+pub mod Runs
+pub mod LawsToCite

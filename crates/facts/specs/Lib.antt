@@ -1,0 +1,5 @@
+pub mod Uses
+pub mod Items
+pub mod Layout
+pub mod Classes
+pub mod Runs
