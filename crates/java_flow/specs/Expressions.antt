@@ -96,29 +96,41 @@ through object member = record { test = a.Value (Then (done object) (value_far m
 -- ---- operators
 
 -- a constant expression (JLS 15.28, 16.1.1)
+abbrev pub constant_test : Value → JavaTest
+constant_test (value.Number (const.Bool b)) = Constant b
+constant_test _ = a.Value Skip
+
 abbrev pub constant_by : Value → Said
-constant_by (value.Number (const.Bool b)) = tested (Constant b)
-constant_by _ = just Skip
+constant_by v = tested (constant_test v)
 
 -- `!` (JLS 16.1.4)
+abbrev pub unary_test : UnaryOp → JavaTest → JavaTest
+unary_test unary.Not x = Not x
+unary_test _ x = a.Value (Asks x)
+
 abbrev pub unary_by : UnaryOp → Said → Said
-unary_by unary.Not x = tested (Not x.test)
-unary_by _ x = just (done x)
+unary_by o x = tested (unary_test o x.test)
 
 -- `&&` and `||` (JLS 16.1.2, 16.1.3)
+abbrev pub binary_test : Op2 → JavaTest → JavaTest → JavaTest
+binary_test op.AndAlso x y = And x y
+binary_test op.OrElse x y = Or x y
+binary_test _ x y = a.Value (Then (Asks x) (Asks y))
+
 abbrev pub binary_by : Op2 → Said → Said → Said
-binary_by op.AndAlso x y = tested (And x.test y.test)
-binary_by op.OrElse x y = tested (Or x.test y.test)
-binary_by _ x y = just (Then (done x) (done y))
+binary_by o x y = tested (binary_test o x.test y.test)
 
 abbrev pub is_boolean_by : TType-F TType → Bool
 is_boolean_by TType-F.Boolean = true
 is_boolean_by _ = false
 
 -- `?:` of truth values, and of others (JLS 16.1.5, 16.1.6)
+abbrev pub conditional_test : Bool → JavaTest → JavaTest → JavaTest → JavaTest
+conditional_test true test x y = Choose test x y
+conditional_test false test x y = a.Value (If false test (Asks x) (Asks y))
+
 abbrev pub conditional_by : Bool → Said → Said → Said → Said
-conditional_by true test x y = tested (Choose test.test x.test y.test)
-conditional_by false test x y = just (If false test.test (done x) (done y))
+conditional_by is_boolean test x y = tested (conditional_test is_boolean test.test x.test y.test)
 
 -- `=`, and the operators that read their target first (JLS 15.26, 15.14.2, 15.15.1, 16.1.8, 16.1.9)
 abbrev pub assign_by : Said → Said → Said

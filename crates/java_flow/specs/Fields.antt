@@ -18,7 +18,7 @@ use Rattle.java_typed.specs.declared.units.TClass.{TClass}
 use Rattle.flow.specs.Acts.{Skip, Does, Then, Block}
 use Rattle.flow.specs.Standing.{stands}
 use Rattle.flow.specs.Analyses.{Reads, Assigns, Reaches}
-use Rattle.java_flow.specs.Variables.{Variable, Simple, Distant, Out, is_field, same_member, JavaUse, JavaAct}
+use Rattle.java_flow.specs.Variables.{Variable, Local, Simple, OfThis, Distant, Out, is_field, same_class, same_member, JavaUse, JavaAct}
 use Rattle.java_flow.specs.Statements.{body, statements, value, values}
 use Rattle.java_flow.specs.Faults.{unassigned_reads, assigned_again}
 use Rattle.java_flow.specs.Locals.{assigns_elsewhere}
@@ -149,13 +149,19 @@ module _ (number : ℕ) (inner : ℕ → JavaAct) (c : TClass) where
     abbrev pub forward_references : List JavaUse
     forward_references = filter (reads_before f.at) (stands (parts_do f.modifiers.is_static c.initializers)) ++ filter reads_simply (stands (own_part c.initializers))
 
--- An assignment to a final field in another way than by its simple name or `this` is refused (JLS 8.3.1.2, 15.26).
-module _ (is_final : MemberRef → Bool) where
-  abbrev pub assigns_distant : JavaUse → Bool
-  assigns_distant (Assigns (Distant m) p) = is_final m
-  assigns_distant (Assigns _ p) = false
-  assigns_distant (Reads v p) = false
-  assigns_distant (Reaches p) = false
+-- An assignment to a final field in another way than by its simple name or `this` is refused, and so is one in the text of
+-- another class than the one that declares it (JLS 8.3.1.2, 15.26, 16).
+module _ (is_final : MemberRef → Bool) (number : ℕ) where
+  abbrev pub is_refused : Variable → Bool
+  is_refused (Local name) = false
+  is_refused (Simple m) = is_final m && not (same_class m.class (class.Project number))
+  is_refused (OfThis m) = is_final m && not (same_class m.class (class.Project number))
+  is_refused (Distant m) = is_final m
+
+  abbrev pub assigns_refused : JavaUse → Bool
+  assigns_refused (Assigns v p) = is_refused v
+  assigns_refused (Reads v p) = false
+  assigns_refused (Reaches p) = false
 
   abbrev pub assigned_from_afar : JavaAct → List JavaUse
-  assigned_from_afar x = filter assigns_distant (stands x)
+  assigned_from_afar x = filter assigns_refused (stands x)

@@ -5,3 +5,5 @@ pub mod Faults
 pub mod Scopes
 pub mod Locals
 pub mod Fields
+pub mod Anonymous
+pub mod Units
