@@ -47,20 +47,20 @@ pub trait Context {
         ensures { IfOk result (λ next. next ≡ (setting self.now).next_part text.now place name.now at) };
 
     /// A field of the class (JLS 8.2, 9.2).
-    fn field(&self, name: &Name) -> Answer
-        ensures { result ≡ (setting self.now).field name.now };
+    fn field(&self, alloc: Global, name: &Name) -> Result<Answer, NoMemory>
+        ensures { IfOk result (λ answer. answer ≡ (setting self.now).field name.now) };
 
-    fn method(&self, name: &Name) -> Answer
-        ensures { result ≡ (setting self.now).method name.now };
+    fn method(&self, alloc: Global, name: &Name) -> Result<Answer, NoMemory>
+        ensures { IfOk result (λ answer. answer ≡ (setting self.now).method name.now) };
 
     /// A method of what stands above the class.
-    fn super_method(&self, name: &Name) -> Answer
-        ensures { result ≡ (setting self.now).super_method name.now };
+    fn super_method(&self, alloc: Global, name: &Name) -> Result<Answer, NoMemory>
+        ensures { IfOk result (λ answer. answer ≡ (setting self.now).super_method name.now) };
 
     /// A field of another class, where it may be seen from here (JLS 6.6).
-    fn class_field(&self, class: Meant, name: &Name) -> Answer
-        ensures { result ≡ (setting self.now).class_field class name.now };
+    fn class_field(&self, alloc: Global, class: Meant, name: &Name) -> Result<Answer, NoMemory>
+        ensures { IfOk result (λ answer. answer ≡ (setting self.now).class_field class name.now) };
 
-    fn class_method(&self, class: Meant, name: &Name) -> Answer
-        ensures { result ≡ (setting self.now).class_method class name.now };
+    fn class_method(&self, alloc: Global, class: Meant, name: &Name) -> Result<Answer, NoMemory>
+        ensures { IfOk result (λ answer. answer ≡ (setting self.now).class_method class name.now) };
 }

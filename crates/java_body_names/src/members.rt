@@ -73,7 +73,8 @@ pub(crate) fn expression<C: Context>(
         state.current = Current::Value;
         return Ok(());
     }
-    field_or_type(alloc, context, state, name, at, context.field(name))
+    let found = context.field(alloc, name)?;
+    field_or_type(alloc, context, state, name, at, found)
 }
 
 /// A field, or a part of a name, behind what was read last.
@@ -88,7 +89,10 @@ pub(crate) fn selected<C: Context>(
 {
     match state.current {
         Current::Value | Current::Unknown => Ok(()),
-        Current::This => answer(context, state, at, false, context.field(name)),
+        Current::This => {
+            let found = context.field(alloc, name)?;
+            answer(context, state, at, false, found)
+        }
         Current::Begun(Place::Package, _) => extend(
             alloc,
             context,
@@ -98,7 +102,8 @@ pub(crate) fn selected<C: Context>(
             at,
         ),
         Current::Begun(Place::Class(class), _) => {
-            answer(context, state, at, true, context.class_field(class, name))
+            let found = context.class_field(alloc, class, name)?;
+            answer(context, state, at, true, found)
         }
         Current::Super | Current::Begun(..) => {
             state.current = Current::Unknown;
@@ -109,6 +114,7 @@ pub(crate) fn selected<C: Context>(
 
 /// A method that is called on what was read last.
 fn method_of<C: Context>(
+    alloc: Global,
     context: &C,
     state: &mut State,
     name: &Name,
@@ -117,10 +123,14 @@ fn method_of<C: Context>(
     ensures { IfOk result (λ u. state.new ≡ s.selected_method (C.setting context.now) state.old name.now at state.old.current) }
 {
     match state.current {
-        Current::This => answer(context, state, at, false, context.method(name)),
+        Current::This => {
+            let found = context.method(alloc, name)?;
+            answer(context, state, at, false, found)
+        }
         Current::Begun(Place::Package, last) => put_fault(context, state, last, 1),
         Current::Begun(Place::Class(class), _) => {
-            answer(context, state, at, true, context.class_method(class, name))
+            let found = context.class_method(alloc, class, name)?;
+            answer(context, state, at, true, found)
         }
         Current::Value | Current::Unknown | Current::Super | Current::Begun(..) => {
             state.current = Current::Value;
@@ -140,6 +150,7 @@ fn is_later(name: &Name) -> bool
 
 /// A method that is called by its simple name.
 pub(crate) fn method<C: Context>(
+    alloc: Global,
     context: &C,
     state: &mut State,
     name: &Name,
@@ -151,10 +162,12 @@ pub(crate) fn method<C: Context>(
         return put_fault(context, state, at, 0);
     }
     let is_missing = has_no_object(context, state.frames.as_slice());
-    answer(context, state, at, is_missing, context.method(name))
+    let found = context.method(alloc, name)?;
+    answer(context, state, at, is_missing, found)
 }
 
 pub(crate) fn selected_method<C: Context>(
+    alloc: Global,
     context: &C,
     state: &mut State,
     name: &Name,
@@ -165,10 +178,11 @@ pub(crate) fn selected_method<C: Context>(
     if is_later(name) {
         return put_fault(context, state, at, 0);
     }
-    method_of(context, state, name, at)
+    method_of(alloc, context, state, name, at)
 }
 
 pub(crate) fn super_method<C: Context>(
+    alloc: Global,
     context: &C,
     state: &mut State,
     name: &Name,
@@ -179,7 +193,8 @@ pub(crate) fn super_method<C: Context>(
     if is_later(name) {
         return put_fault(context, state, at, 0);
     }
-    answer(context, state, at, false, context.super_method(name))
+    let found = context.super_method(alloc, name)?;
+    answer(context, state, at, false, found)
 }
 
 /// What was read last is used as a value.

@@ -1,6 +1,6 @@
 -- What statements and members say of names, in the order in which they bind them. A body stands where its head has a place
 -- for it.
-use Rattle.std.specs.Prelude.{ℕ, Bool, true, false, ◌||◌, List, [], ◌∷◌, ◌++◌, map, Option, Some, None}
+use Rattle.std.specs.Prelude.{ℕ, Bool, true, false, ◌||◌, if◌then◌else◌, List, [], ◌∷◌, ◌++◌, map, Option, Some, None}
 use Rattle.std.specs.List.{list_any}
 use Rattle.java_tree.specs.declared.tokens.Position.{Position}
 use Rattle.java_tree.specs.declared.types.JType.{JType}
@@ -21,9 +21,9 @@ use Rattle.java_member_grammar.specs.declared.heads.JMemberHead.TheVariants as h
 use Rattle.java_member_grammar.specs.declared.heads.JTypeHead.{JTypeHead}
 use Rattle.java_member_grammar.specs.declared.heads.JTypeHead.TheVariants as kind
 use Rattle.java_unit_grammar.specs.declared.statements.JBody.{JBody}
-use Rattle.java_unit_grammar.specs.declared.statements.JCase.{JCase}
-use Rattle.java_unit_grammar.specs.declared.statements.JCaseGroup.{JCaseGroup}
-use Rattle.java_unit_grammar.specs.declared.statements.JCatch.{JCatch}
+use Rattle.java_unit_grammar.specs.declared.statements.JCase.{JCase, fold-JCase}
+use Rattle.java_unit_grammar.specs.declared.statements.JCaseGroup.{JCaseGroup, fold-JCaseGroup}
+use Rattle.java_unit_grammar.specs.declared.statements.JCatch.{JCatch, fold-JCatch}
 use Rattle.java_unit_grammar.specs.declared.statements.JMember.{JMember, out-JMember}
 use Rattle.java_unit_grammar.specs.declared.statements.JStatement.{JStatement, fold-JStatement}
 use Rattle.java_unit_grammar.specs.declared.statements.JBody.{fold-JBody}
@@ -37,17 +37,37 @@ use Rattle.java_name_uses.specs.declared.uses.Use.TheVariants as use_
 use Rattle.java_name_uses.specs.Uses as u
 use Rattle.java_name_uses.specs.Uses.{Uses, all}
 use Rattle.java_name_uses.specs.Heads as h
+use Rattle.java_body_uses.specs.declared.members.Member.{Member}
+use Rattle.java_body_uses.specs.declared.members.Member.TheVariants.{Initial, Called, Later}
 
 -- ---- bodies in their heads
 
--- the bodies of a head, in the order of their `{`: the block of a lambda in its place, nothing of an anonymous class
+-- the block of a lambda
+abbrev pub is_block : Use → Bool
+is_block (use_.Sign sign.Block) = true
+is_block _ = false
+
+-- the place of a body: the block of a lambda, or an anonymous class
+abbrev pub is_place : Use → Bool
+is_place (use_.Sign sign.Block) = true
+is_place (use_.Sign sign.Skipped) = true
+is_place _ = false
+
+-- what a head says at one place, where these bodies are left: the block of a lambda stands in its place, nothing of an
+-- anonymous class
+abbrev pub said_at : Use → List Uses → Uses
+said_at x [] = x ∷ []
+said_at x (body ∷ bodies) = if is_place x then (if is_block x then body else []) else x ∷ []
+
+-- the bodies that are left behind it
+abbrev pub left_behind : Use → List Uses → List Uses
+left_behind x [] = []
+left_behind x (body ∷ bodies) = if is_place x then bodies else body ∷ bodies
+
+-- what a head says, with its bodies in the order of their `{`
 abbrev pub filled : Uses → List Uses → Uses
 filled [] bodies = []
-filled (use_.Sign sign.Block ∷ more) [] = filled more []
-filled (use_.Sign sign.Block ∷ more) (body ∷ bodies) = body ++ filled more bodies
-filled (use_.Sign sign.Skipped ∷ more) [] = filled more []
-filled (use_.Sign sign.Skipped ∷ more) (body ∷ bodies) = filled more bodies
-filled (x ∷ more) bodies = x ∷ filled more bodies
+filled (x ∷ more) bodies = said_at x bodies ++ filled more (left_behind x bodies)
 
 abbrev pub scoped : Sign → Uses → Uses
 scoped opens x = u.signed opens ++ (x ++ u.signed sign.Close)
@@ -96,16 +116,16 @@ statement_uses = fold-JStatement Uses Uses Uses Uses Uses Uses body_by member_by
 abbrev pub statements : List JStatement → Uses
 statements xs = all (map statement_uses xs)
 
--- ---- members
+unfoldable pub case_uses : JCase → Uses
+case_uses = fold-JCase Uses Uses Uses Uses Uses Uses body_by member_by statement_by case_by group_by catch_by
 
--- What a member is: the member's own context is given by it, what it says follows.
-pub data Member : Type 0 where
-  -- a field or an initializer: whether it is static, what it says (no `return` may stand there)
-  Initial : Bool → Uses → Member
-  -- a method or a constructor: whether it is static, what it says
-  Called : Bool → Uses → Member
-  -- a form that isn't built yet, by its first token
-  Later : Position → Member
+unfoldable pub group_uses : JCaseGroup → Uses
+group_uses = fold-JCaseGroup Uses Uses Uses Uses Uses Uses body_by member_by statement_by case_by group_by catch_by
+
+unfoldable pub catch_uses : JCatch → Uses
+catch_uses = fold-JCatch Uses Uses Uses Uses Uses Uses body_by member_by statement_by case_by group_by catch_by
+
+-- ---- members
 
 abbrev pub is_static_by : ModifierKind → Bool
 is_static_by modifier.Static = true
@@ -167,5 +187,5 @@ member_of place (JMember-F.Bodied head left xs right) = head_member place head [
 member_of place (JMember-F.Type head left constants bodies members right) = Some (Later (type_at head))
 
 -- what a member of a class or an interface says
-unfoldable pub member : JHome → JMember → Option Member
-member place x = member_of place (out-JMember x)
+unfoldable pub member_uses : JHome → JMember → Option Member
+member_uses place x = member_of place (out-JMember x)
