@@ -1,0 +1,4 @@
+pub mod Faults
+pub mod Expressions
+pub mod Statements
+pub mod Classes
