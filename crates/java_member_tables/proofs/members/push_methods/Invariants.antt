@@ -1,0 +1,6 @@
+use Rattle.std.proofs.Common.{◌≡◌, ◌++◌, drop}
+use Rattle.java_member_tables.specs.Members.{methods}
+use Rattle.java_member_tables.proofs.members.push_methods.Given as goal
+
+abbrev pub invariant-loop-x : goal.invariant-loop-x
+invariant-loop-x l = l.out ++ methods l.is_interface (drop l.x-index l.xs) ≡ l.fn.out ++ methods l.is_interface l.xs

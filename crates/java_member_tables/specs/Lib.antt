@@ -1,0 +1,3 @@
+pub mod Members
+pub mod Library
+pub mod Tables
