@@ -1,5 +1,5 @@
 -- The faults of some forms, by those of their parts.
-use Rattle.std.proofs.Common.{◌≡◌, ℕ, Bool, true, false, not, ◌&&◌, ◌||◌, List, [], ◌∷◌, ◌++◌, map, ap, sym, ◌∙◌, refl}
+use Rattle.std.proofs.Common.{◌≡◌, Bool, true, false, not, ◌&&◌, ◌||◌, List, ◌∷◌, ◌++◌, ap, sym, ◌∙◌, refl}
 use Rattle.java_tree.specs.declared.tokens.Position.{Position}
 use Rattle.java_typed.specs.declared.members.MemberRef.{MemberRef}
 use Rattle.java_typed.specs.declared.exprs.TExpr.{TExpr, roll-TExpr, map-TExpr, fold-roll-TExpr}

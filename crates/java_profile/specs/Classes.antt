@@ -1,11 +1,9 @@
 -- The rules that a class breaks.
-use Rattle.std.specs.Prelude.{ℕ, suc, Bool, true, false, not, ◌&&◌, ◌||◌, ◌==◌, nat_lt, List, [], ◌∷◌, ◌++◌, map, length, Option, Some, None, slice_get, is_none, if◌then◌else◌}
-use Rattle.java_tree.specs.declared.tokens.Position.{Position}
+use Rattle.std.specs.Prelude.{ℕ, suc, Bool, false, not, ◌&&◌, ◌==◌, nat_lt, List, [], ◌∷◌, ◌++◌, length, Option, Some, None, slice_get, is_none, if◌then◌else◌}
 use Rattle.java_typed.specs.declared.types.ClassRef.{ClassRef}
 use Rattle.java_typed.specs.declared.types.ClassRef.TheVariants as class
 use Rattle.java_typed.specs.declared.members.MemberRef.{MemberRef}
 use Rattle.java_typed.specs.declared.exprs.TExpr.{TExpr}
-use Rattle.java_typed.specs.declared.statements.TBody.{TBody}
 use Rattle.java_typed.specs.declared.units.TField.{TField}
 use Rattle.java_typed.specs.declared.units.TBlock.{TBlock}
 use Rattle.java_typed.specs.declared.units.TMethod.{TMethod}
@@ -22,9 +20,9 @@ use Rattle.facts.specs.Classes.{in_java}
 use Rattle.java_facts.specs.Items.{is_constant_variable}
 use Rattle.java_facts.specs.Sets.{is_set}
 use Rattle.java_facts.specs.Project.{classes_of, class_facts, all_facts, most, same_place, is_interface_sort}
-use Rattle.java_profile.specs.Faults.{Rule, Fault, P11, P16, P17, P20}
+use Rattle.java_profile.specs.Faults.{Fault, P11, P16, P17, P20}
 use Rattle.java_profile.specs.Expressions.{told}
-use Rattle.java_profile.specs.Statements.{joined, value_faults, values_faults, statements_faults, bodies_faults}
+use Rattle.java_profile.specs.Statements.{value_faults, values_faults, statements_faults, bodies_faults}
 
 -- ---- constant variables (JLS 4.12.4)
 

@@ -1,10 +1,10 @@
 -- The rules that an expression breaks.
-use Rattle.std.specs.Prelude.{ℕ, Bool, true, false, not, ◌&&◌, ◌||◌, ◌==◌, List, [], ◌∷◌, ◌++◌, if◌then◌else◌}
+use Rattle.std.specs.Prelude.{Bool, true, false, not, ◌&&◌, ◌||◌, ◌==◌, List, [], ◌∷◌, ◌++◌}
 use Rattle.std.specs.List.{filter}
 use Rattle.java_tree.specs.declared.tokens.Position.{Position}
 use Rattle.java_typed.specs.declared.types.ClassRef.{ClassRef}
 use Rattle.java_typed.specs.declared.types.ClassRef.TheVariants as class
-use Rattle.java_typed.specs.declared.types.TType.{TType, out-TType}
+use Rattle.java_typed.specs.declared.types.TType.{TType, out-TType, fold-TType}
 use Rattle.java_typed.specs.declared.types.TType.TheOpen.{TType-F}
 use Rattle.java_typed.specs.declared.types.TResult.{TResult}
 use Rattle.java_typed.specs.declared.types.TResult.TheVariants as result
@@ -14,8 +14,8 @@ use Rattle.java_typed.specs.declared.exprs.Conversion.TheVariants as to
 use Rattle.java_typed.specs.declared.exprs.TExpr.{TExpr, fold-TExpr, map-TExpr}
 use Rattle.java_typed.specs.declared.exprs.TExpr.TheOpen.{TExpr-F}
 use Rattle.java_typed.specs.Reading.{first_by, type_by}
-use Rattle.java_facts.specs.Kinds.{Sort, Primitive, Boxed, Text, NullType, Other, class_sort}
-use Rattle.java_profile.specs.Faults.{Rule, Fault, P3, P5, P6, P7, P9, P11, P16, P17, P20}
+use Rattle.java_facts.specs.Kinds.{Sort, Boxed, Text, class_sort}
+use Rattle.java_profile.specs.Faults.{Rule, Fault, P3, P5, P7, P9}
 
 -- Of an expression: its type, its first token, whether it is the literal null, also in parentheses, whether a box is opened where it
 -- stands, and its faults.
@@ -46,9 +46,16 @@ is_open_by _ = false
 abbrev pub is_open : TType → Bool
 is_open t = is_open_by (out-TType t)
 
-abbrev pub element_is_open : TType-F TType → Bool
-element_is_open (TType-F.Array element) = is_open element
-element_is_open _ = false
+-- such a type, or an array of it, of any depth
+abbrev pub holds_open_by : TType-F Bool → Bool
+holds_open_by (TType-F.Array element) = element
+holds_open_by (TType-F.Variable c place) = true
+holds_open_by (TType-F.Class c []) = false
+holds_open_by (TType-F.Class c (a ∷ more)) = true
+holds_open_by _ = false
+
+abbrev pub holds_open : TType → Bool
+holds_open t = fold-TType Bool holds_open_by t
 
 -- a String, a box, Object, or of a type variable: what it is has no identity
 abbrev pub is_valued_class : ClassRef → Bool
@@ -122,8 +129,8 @@ module _ (is_constant_field : MemberRef → Bool) where
   faults_by (TExpr-F.Lambda l inner) first = inner.faults
   faults_by (TExpr-F.LambdaBlock l number) first = []
   faults_by (TExpr-F.New at kind m arguments body) first = all_faults arguments
-  faults_by (TExpr-F.NewArray at kind size) first = told (element_is_open (out-TType kind.kind)) P3 first ++ size.faults
-  faults_by (TExpr-F.NewFilled at kind elements) first = told (element_is_open (out-TType kind.kind)) P3 first ++ all_faults elements
+  faults_by (TExpr-F.NewArray at kind size) first = told (holds_open kind.kind) P3 first ++ size.faults
+  faults_by (TExpr-F.NewFilled at kind elements) first = told (holds_open kind.kind) P3 first ++ all_faults elements
 
   abbrev pub is_null_by : TExpr-F Judged → Bool
   is_null_by (TExpr-F.Null at) = true

@@ -1,12 +1,5 @@
 -- The rules that statements break.
-use Rattle.std.specs.Prelude.{ℕ, zero, suc, Bool, true, false, ◌||◌, ◌+◌, nat_lt, List, [], ◌∷◌, ◌++◌, map, length, Option, Some, None}
-use Rattle.java_tree.specs.declared.tokens.Position.{Position}
-use Rattle.java_typed.specs.declared.types.ClassRef.{ClassRef}
-use Rattle.java_typed.specs.declared.types.ClassRef.TheVariants as class
-use Rattle.java_typed.specs.declared.types.TType.{TType, out-TType}
-use Rattle.java_typed.specs.declared.types.TType.TheOpen.{TType-F}
-use Rattle.java_typed.specs.declared.types.TResult.{TResult}
-use Rattle.java_typed.specs.declared.types.TResult.TheVariants as result
+use Rattle.std.specs.Prelude.{ℕ, Bool, true, false, ◌+◌, nat_lt, List, [], ◌∷◌, ◌++◌, map, length, Option, Some, None}
 use Rattle.java_typed.specs.declared.members.MemberRef.{MemberRef}
 use Rattle.java_typed.specs.declared.exprs.TExpr.{TExpr}
 use Rattle.java_typed.specs.declared.statements.TDeclarator.{TDeclarator}
@@ -19,9 +12,9 @@ use Rattle.java_typed.specs.declared.statements.TLock.TheVariants as lock
 use Rattle.java_typed.specs.declared.statements.TBody.{TBody, fold-TBody}
 use Rattle.java_typed.specs.declared.statements.TBody.TheOpen.{TBody-F, TStatement-F, TCaseGroup-F, TCatch-F}
 use Rattle.java_typed.specs.declared.statements.TStatement.{TStatement, fold-TStatement}
-use Rattle.java_facts.specs.Kinds.{Sort, Primitive, Boxed, Text, NullType, Other, result_sort}
+use Rattle.java_facts.specs.Kinds.{Sort, Boxed, Text, result_sort}
 use Rattle.java_profile.specs.Faults.{Fault, P6, P20}
-use Rattle.java_profile.specs.Expressions.{Judged, judged, told}
+use Rattle.java_profile.specs.Expressions.{judged, told}
 
 abbrev pub joined : List (List Fault) → List Fault
 joined [] = []
