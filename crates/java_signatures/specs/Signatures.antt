@@ -25,8 +25,6 @@ use Rattle.java_unit_grammar.specs.declared.statements.JStatement.{JStatement}
 use Rattle.java_unit_grammar.specs.declared.statements.JBody.TheOpen.{JMember-F}
 use Rattle.java_classes.specs.declared.faults.NameFault.{NameFault}
 use Rattle.java_classes.specs.Faults.{fault_if}
-use Rattle.java_type_names.specs.declared.classes.Meant.{Meant}
-use Rattle.java_type_names.specs.declared.classes.Meant.TheVariants as m
 use Rattle.java_type_names.specs.declared.classes.World.{World}
 use Rattle.java_type_names.specs.declared.scopes.FileScope.{FileScope}
 use Rattle.java_type_names.specs.declared.places.Place.{Place}

@@ -2,7 +2,9 @@
 #![tactic(auto)]
 
 mod erasure;
+mod laws;
 mod signatures;
 
 pub use erasure::Piece;
+pub use laws::{same_signatures, second_signatures};
 pub use signatures::{Signature, signature_faults};
