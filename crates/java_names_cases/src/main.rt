@@ -2,19 +2,30 @@
 #![tactic(auto)]
 
 use case_rows::answer_rows;
-use j2k_base::{NoMemory, Stop, Text};
-use java_classes::{NameFault, class_faults, class_rows, declared_packages};
-use java_head_names::head_faults;
+use j2k_base::{EntryNames, Fault, NoMemory, Stop, Text};
 use java_lexer::lex;
-use java_name_faults::first_name_fault;
+use java_member_tables::are_numbered;
+use java_names::{Bound, bind};
 use java_parser::parse;
-use java_supertypes::{class_edges, cycle_faults, headings};
-use java_type_names::{World, file_scope};
 use java_unit_grammar::JUnit;
 use sqlite_items::Items;
 use std::alloc::Global;
 use std::fmt::Write;
 use std::io;
+
+fn let_go_bound(_bound: Bound) {}
+
+fn let_go_units(_units: Items<JUnit>) {}
+
+fn text_of(alloc: Global, letters: &[u8]) -> Result<Text, NoMemory> {
+    let mut text = Text::new(alloc);
+    for letter in letters {
+        if *letter < 128 {
+            text.push(*letter as char)?;
+        }
+    }
+    Ok(text)
+}
 
 fn parsed(alloc: Global, path: &Text, text: &[u8]) -> Result<JUnit, Stop> {
     if text.len() < 100_000 {
@@ -24,78 +35,103 @@ fn parsed(alloc: Global, path: &Text, text: &[u8]) -> Result<JUnit, Stop> {
     }
 }
 
-fn path(alloc: Global, letters: &[u8]) -> Result<Text, NoMemory> {
-    let mut path = Text::new(alloc);
-    for letter in letters {
-        if *letter < 128 {
-            path.push(*letter as char)?;
+fn push_unit(units: &mut Items<JUnit>, unit: Result<JUnit, Stop>) -> Result<(), NoMemory> {
+    if let Ok(unit) = unit {
+        units.push(unit)?;
+    }
+    Ok(())
+}
+
+/// The name of an entry stands between quotes.
+fn push_entries(alloc: Global, entries: &mut EntryNames, text: &[u8]) -> Result<(), NoMemory> {
+    for (number, part) in text.split(|byte| *byte == b'"').enumerate() {
+        if number % 2 == 1 {
+            entries.push(text_of(alloc, part)?)?;
         }
     }
-    Ok(path)
+    Ok(())
 }
 
-/// The unit of a Java file, where it is one.
-fn file(alloc: Global, letters: &[u8], text: &[u8]) -> Result<Option<JUnit>, NoMemory> {
-    let path = path(alloc, letters)?;
-    if !path.as_str().ends_with(".java") {
-        return Ok(None);
+fn push_file(
+    alloc: Global,
+    units: &mut Items<JUnit>,
+    entries: &mut EntryNames,
+    letters: &[u8],
+    text: &[u8],
+) -> Result<(), NoMemory> {
+    let path = text_of(alloc, letters)?;
+    if path.as_str() == "j2k.toml" {
+        return push_entries(alloc, entries, text);
     }
-    match parsed(alloc, &path, text) {
-        Ok(unit) => Ok(Some(unit)),
-        Err(_) => Ok(None),
-    }
+    push_unit(units, parsed(alloc, &path, text))
 }
 
-fn units(alloc: Global, text: &[u8]) -> Result<Vec<JUnit>, NoMemory> {
-    let mut out = Vec::new(alloc);
+fn push_files(
+    alloc: Global,
+    units: &mut Items<JUnit>,
+    entries: &mut EntryNames,
+    text: &[u8],
+) -> Result<(), NoMemory> {
     for part in text.split(|byte| *byte == 31) {
         if let Some(at) = part.iter().position(|byte| *byte == b'=') {
-            if let Some(unit) = file(alloc, &part[..at], &part[at + 1..])? {
-                out.push(unit)?;
-            }
+            push_file(alloc, units, entries, &part[..at], &part[at + 1..])?;
         }
     }
-    Ok(out)
+    Ok(())
 }
 
-fn faults(alloc: Global, units: &[JUnit]) -> Result<Items<NameFault>, NoMemory> {
-    let mut out = Items::new(alloc);
-    let world = World {
-        rows: class_rows(alloc, units)?,
-        packages: declared_packages(alloc, units)?,
-    };
-    class_faults(
-        alloc,
-        &mut out,
-        world.packages.as_slice(),
-        world.rows.as_slice(),
+fn put_fault(out: &mut String, fault: &Fault) -> Result<(), NoMemory> {
+    write!(
+        out,
+        "N{} {} {}:{}",
+        fault.number,
+        fault.place.path.as_str(),
+        fault.place.line,
+        fault.place.column
     )?;
-    let mut scopes = Vec::new(alloc);
-    for (number, unit) in units.iter().enumerate() {
-        scopes.push(file_scope(alloc, &world, number, &mut out, unit)?)?;
+    Ok(())
+}
+
+fn put_answer(out: &mut String, answer: Result<Bound, Stop>) -> Result<(), NoMemory> {
+    match answer {
+        Ok(bound) => {
+            let_go_bound(bound);
+            out.push_str("none")?;
+            Ok(())
+        }
+        Err(Stop::Memory) => Err(NoMemory),
+        Err(Stop::Fault(fault)) => put_fault(out, &fault),
     }
-    let above = headings(alloc, &world, scopes.as_slice(), units)?;
-    let edges = class_edges(alloc, above.as_slice())?;
-    cycle_faults(alloc, &mut out, world.rows.as_slice(), edges.as_slice())?;
-    head_faults(alloc, &mut out, &world, scopes.as_slice(), units)?;
-    Ok(out)
+}
+
+fn put_bound(
+    alloc: Global,
+    out: &mut String,
+    units: Items<JUnit>,
+    entries: &EntryNames,
+) -> Result<(), NoMemory> {
+    match are_numbered(alloc, units.as_slice()) {
+        Ok(true) => put_answer(out, bind(alloc, units, entries)),
+        Ok(false) => {
+            let_go_units(units);
+            out.push_str("too many members")?;
+            Ok(())
+        }
+        Err(error) => {
+            let_go_units(units);
+            Err(error)
+        }
+    }
 }
 
 fn put(alloc: Global, text: &[u8], out: &mut String) -> Result<(), NoMemory> {
-    let units = units(alloc, text)?;
-    let found = faults(alloc, units.as_slice())?;
-    match first_name_fault(alloc, units.as_slice(), found.as_slice())? {
-        None => out.push_str("none")?,
-        Some(fault) => write!(
-            out,
-            "N{} {} {}:{}",
-            fault.number,
-            fault.place.path.as_str(),
-            fault.place.line,
-            fault.place.column
-        )?,
+    let mut units = Items::new(alloc);
+    let mut entries = EntryNames::new(alloc);
+    if let Err(error) = push_files(alloc, &mut units, &mut entries, text) {
+        let_go_units(units);
+        return Err(error);
     }
-    Ok(())
+    put_bound(alloc, out, units, &entries)
 }
 
 fn main(rt: HostRuntime) -> io::Result<()> {
