@@ -1,0 +1,5 @@
+mod Bytes
+mod Cutting
+pub mod LawsToCite
+mod Marks
+mod Words
