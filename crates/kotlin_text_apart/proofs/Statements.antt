@@ -1,5 +1,6 @@
 -- Statements: their tokens stand apart.
-use Rattle.std.proofs.Common.{◌≡◌, ℕ, ◌+◌, true, List, [], ◌∷◌, ◌++◌, map, Option, Some, None, refl, ap, sym, subst, ◌∙◌, append_assoc}
+use Rattle.std.proofs.Common.{◌≡◌, ℕ, ◌+◌, Bool, true, false, List, [], ◌∷◌, ◌++◌, map, Option, Some, None, refl, ap, sym, subst, ◌∙◌, append_assoc}
+use Rattle.std.specs.Prelude.{if◌then◌else◌, bytes_eq, codes}
 use Rattle.kotlin_tree.specs.declared.tokens.Mark.TheVariants as m
 use Rattle.kotlin_tree.specs.declared.tokens.Keyword.{Keyword}
 use Rattle.kotlin_tree.specs.declared.tokens.Keyword.TheVariants as k
@@ -56,10 +57,15 @@ unfolding front
 target_calm None zs c = c
 target_calm (Some x) zs c = refl
 
+target_named : (b : Bool) (n : List ℕ) (o : Open) (zs : Roles) → ends_word (front zs) ≡ true → is_lexable o zs ≡ true → is_lexable o ((if b then fixed (g.Word w.SynchronizedBlock ∷ []) else name n) ++ zs) ≡ true
+unfolding is_lexable
+target_named true n o zs e h = and_true (ends_word (front zs)) (is_lexable o zs) e h
+target_named false n o zs e h = name_goes n o zs e h
+
 target_go : (x : Option KTarget) (o : Open) (zs : Roles) → calm (front zs) ≡ true → is_lexable o zs ≡ true → is_lexable o (target_roles x ++ zs) ≡ true
 unfolding is_lexable front ends_mark
 target_go None o zs c h = h
-target_go (Some x) o zs c h = name_goes x.name.name o zs (both (ends_word (front zs)) (is_other 61 (front zs)) c).0 h
+target_go (Some x) o zs c h = target_named (bytes_eq x.name.name (codes "synchronized")) x.name.name o zs (both (ends_word (front zs)) (is_other 61 (front zs)) c).0 h
 
 -- a keyword, and where a jump goes
 jump : (x : Keyword) (to : Option KTarget) → Flows (fixed (g.Keyword x ∷ []) ++ target_roles to)
