@@ -1,6 +1,6 @@
 -- A text behind its first characters.
-use Rattle.std.proofs.Common.{◌≡◌, ℕ, zero, suc, ◌-◌, ◌<◌, Bool, true, false, not, List, [], ◌∷◌, ◌++◌, length, drop, Some, None, refl, ap, sym, subst, ◌∙◌, arith}
-use Rattle.std.specs.Prelude.{◌&&◌, ◌==◌, nat_lt, encode_utf8}
+use Rattle.std.proofs.Common.{◌≡◌, ℕ, zero, suc, ◌-◌, ◌<◌, Bool, true, false, not, List, [], ◌∷◌, ◌++◌, length, drop, Option, Some, None, refl, ap, sym, subst, ◌∙◌, arith}
+use Rattle.std.specs.Prelude.{◌&&◌, ◌==◌, nat_lt, nat_le, encode_utf8}
 use Rattle.std.proofs.lemmas.Bool.Decides.{nat_tests}
 use Rattle.std.proofs.lemmas.Bool.{lt-ltb}
 use Rattle.std.specs.Char.{IsScalar}
@@ -10,6 +10,7 @@ use Rattle.java_characters.specs.Letters.{character_front}
 use Rattle.kotlin_characters.specs.declared.letters.Cursor.{Cursor}
 use Rattle.kotlin_characters.specs.Letters.{Letters, letter, read_character, first_character, past, from_character, letters_from}
 use Rattle.kotlin_characters.specs.Scans.{head}
+use Rattle.kotlin_lexer.specs.Names.{is_start}
 use Rattle.kotlin_lexed_text.specs.Lexable.{first_of, is_other}
 
 -- the text of bytes from a place on
@@ -91,3 +92,10 @@ other_head c [] p z h = z
 other_head c (b ∷ bs) p z h =
     let k = both (nat_lt b 128) (not (b == c)) h in
     ap (λ t. head t == c) (low_there b bs p k.0) ∙ is_no (b == c) k.1
+
+-- what stands first, where something is told of it
+pub data Agrees (x y : Option ℕ) : Type 0 where
+  Same : x ≡ y → Agrees x y
+  Letter : (c : ℕ) → x ≡ Some c → nat_lt c 128 ≡ true → is_start c ≡ true → y ≡ Some 95 → Agrees x y
+  Digit : (c : ℕ) → x ≡ Some c → nat_le 48 c ≡ true → nat_le c 57 ≡ true → y ≡ Some 48 → Agrees x y
+  Any : y ≡ Some 200 → Agrees x y

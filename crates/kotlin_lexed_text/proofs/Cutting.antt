@@ -39,8 +39,10 @@ use Rattle.kotlin_canonical_text.specs.Tokens.{Tokens, token as made_token, toke
 use Rattle.kotlin_canonical_text.specs.Gaps.{gap_behind}
 use Rattle.kotlin_canonical_text.proofs.LawsToCite.{is_ident, name_ident}
 use Rattle.kotlin_placeless.specs.Placeless.{placeless_tokens}
-use Rattle.kotlin_lexed_text.specs.Lexable.{IsComment, first_of, role_first, front, is_other, ends_mark, ends_word, ends_literal, is_line_end, pairs_by, is_lexable, Agrees, IsPart, AreParts}
-use Rattle.kotlin_lexed_text.proofs.Bytes.{Decodes, T, low_there, both}
+use Rattle.kotlin_lexed_text.specs.Lexable.{IsComment, first_of, role_first, front, is_other, ends_mark, ends_word, ends_literal, is_line_end, pairs_by, is_lexable, IsPart, AreParts}
+use Rattle.kotlin_lexed_text.proofs.Bytes.{Agrees, Decodes, T, low_there, both}
+use Rattle.kotlin_lexed_text.proofs.Comments.{comment_blank}
+use Rattle.kotlin_lexed_text.proofs.Literals.{literal_reads, literal_begins}
 use Rattle.kotlin_lexed_text.proofs.Marks.{mark_reads}
 use Rattle.kotlin_lexed_text.proofs.Words.{keyword_reads, word_text_reads, name_reads, name_front}
 
@@ -139,9 +141,9 @@ semicolon_there o h bs ts more p = semicolon_more o h (T p (59 ∷ bs)) (T (past
 same_number : (c k : ℕ) → (c == k) ≡ true → c ≡ k
 same_number c k h = grind (arith, nat_tests)
 
-comment_read : (x bs : List ℕ) (p : Cursor) → IsComment x → is_line_end (first_of bs None) ≡ true → (r : Cursor) × (piece_of (T p (x ++ bs)) ≡ blank (T r bs))
-comment_read x [] p c h = absurd (cc h)
-comment_read x (d ∷ bs) p c h = subst (λ z. (r : Cursor) × (piece_of (T p (x ++ z ∷ bs)) ≡ blank (T r (z ∷ bs)))) (sym (same_number d 10 h)) (c p bs)
+comment_read : Decodes → (x bs : List ℕ) (p : Cursor) → IsComment x → is_line_end (first_of bs None) ≡ true → (r : Cursor) × (piece_of (T p (x ++ bs)) ≡ blank (T r bs))
+comment_read decodes x [] p c h = absurd (cc h)
+comment_read decodes x (d ∷ bs) p c h = subst (λ z. (r : Cursor) × (piece_of (T p (x ++ z ∷ bs)) ≡ blank (T r (z ∷ bs)))) (sym (same_number d 10 h)) (comment_blank decodes x c p bs)
 
 -- ---- the text of roles
 
@@ -296,7 +298,7 @@ role_agrees decodes (Role.Fixed g.Line) l c f part a = Agrees.Same refl
 role_agrees decodes (Role.Fixed g.Deeper) l c f part a = a
 role_agrees decodes (Role.Fixed g.Shallower) l c f part a = a
 role_agrees decodes (Role.Name n) l c f part a = name_front decodes n c part
-role_agrees decodes (Role.Literal x) l c f part a = part.begins c
+role_agrees decodes (Role.Literal x) l c f part a = literal_begins x part c
 role_agrees decodes (Role.Comment x) l c f part a = Agrees.Any refl
 
 front_agrees : Decodes → (l : ℕ) (xs : Roles) → AreParts xs → Agrees (first_of (text_behind l xs) None) (front xs)
@@ -426,7 +428,7 @@ literal_open o literal.Null = refl
 -- ---- the whole text
 
 -- the tokens of a text, and the end of the file
-abbrev pub ended : Gap → Roles → Tokens
+abbrev ended : Gap → Roles → Tokens
 ended h xs = tokens h xs ++ made_token q.End (gap_behind h xs) ∷ []
 
 at_end : Decodes → (xs : Roles) (l : ℕ) (f : Option ℕ → Bool) → Uniform f → AreParts xs → f (front xs) ≡ true → f (first_of (text_behind l xs) None) ≡ true
@@ -436,7 +438,7 @@ is_no : (v : Bool) → not v ≡ true → v ≡ false
 is_no true h = absurd (cc h)
 is_no false h = refl
 
-pub text_lexed : Decodes → (xs : Roles) (l : ℕ) (o : Open) (h : Gap) → AreParts xs → is_lexable o xs ≡ true → Anywhere o h (text_behind l xs) (ended h xs)
+text_lexed : Decodes → (xs : Roles) (l : ℕ) (o : Open) (h : Gap) → AreParts xs → is_lexable o xs ≡ true → Anywhere o h (text_behind l xs) (ended h xs)
 unfolding is_lexable AreParts text_behind tokens
 text_lexed decodes [] l o h parts is p = stopped o h p.position
 text_lexed decodes (Role.Fixed (g.Mark x) ∷ xs) l o h parts is p =
@@ -466,16 +468,16 @@ text_lexed decodes (Role.Name n ∷ xs) l o h parts is p =
     (subst (λ z. Lexed z gap.Plain (T r.0 (text_behind l xs)) (ended gap.Plain xs)) (sym (name_open o n)) (text_lexed decodes xs l o gap.Plain parts.1 k.1 r.0))
 text_lexed decodes (Role.Literal x ∷ xs) l o h parts is p =
     let k = both (ends_literal x (front xs)) (is_lexable o xs) is in
-    let r = parts.0.reads p (text_behind l xs) (at_end decodes xs l (ends_literal x) (uniform_literal x) parts.1 k.0) in
+    let r = literal_reads decodes x parts.0 p (text_behind l xs) (at_end decodes xs l (ends_literal x) (uniform_literal x) parts.1 k.0) in
     token_more o h (T p (literal_text x ++ text_behind l xs)) (T r.0 (text_behind l xs)) (literal_token x) p.position (ended gap.Plain xs) r.1
     (subst (λ z. Lexed z gap.Plain (T r.0 (text_behind l xs)) (ended gap.Plain xs)) (sym (literal_open o x)) (text_lexed decodes xs l o gap.Plain parts.1 k.1 r.0))
 text_lexed decodes (Role.Comment x ∷ xs) l o h parts is p =
     let k = both (is_line_end (front xs)) (is_lexable o xs) is in
-    let r = comment_read x (text_behind l xs) p parts.0 (at_end decodes xs l is_line_end uniform_line parts.1 k.0) in
+    let r = comment_read decodes x (text_behind l xs) p parts.0 (at_end decodes xs l is_line_end uniform_line parts.1 k.0) in
     blank_more o h (T p (x ++ text_behind l xs)) (T r.0 (text_behind l xs)) (ended h xs) r.1 (text_lexed decodes xs l o h parts.1 k.1 r.0)
 
 -- the tokens that bytes are, which are these but for their places
-abbrev pub LexesAs : List ℕ → Tokens → Type 0
+abbrev LexesAs : List ℕ → Tokens → Type 0
 LexesAs bytes ts = (us : Tokens) × Lexes bytes us × (placeless_tokens us ≡ ts)
 
 pub roles_lexed : Decodes → (xs : Roles) → AreParts xs → is_lexable [] xs ≡ true → LexesAs (text_of xs) (ended gap.Plain xs)

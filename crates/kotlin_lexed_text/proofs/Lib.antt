@@ -1,5 +1,6 @@
 mod Bytes
+mod Comments
 mod Cutting
-pub mod LawsToCite
+mod Literals
 mod Marks
 mod Words

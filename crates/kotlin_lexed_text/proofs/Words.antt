@@ -33,8 +33,8 @@ use Rattle.kotlin_lexer.specs.Names.{is_start, is_continue, name_of, is_named, w
 use Rattle.kotlin_lexer.specs.Pieces.{is_blank, is_line_end, piece_of, quoted_token, token_piece}
 use Rattle.kotlin_layout.specs.Names.{is_quoted, is_keyword, is_odd, other_keywords, is_past_ascii, is_underscore, name_text}
 use Rattle.kotlin_canonical_text.specs.Tokens.{name_token, word_by}
-use Rattle.kotlin_lexed_text.specs.Lexable.{IsIdentifier, Agrees, first_of, ends_word}
-use Rattle.kotlin_lexed_text.proofs.Bytes.{Decodes, T, character_there, low_there, is_low, both}
+use Rattle.kotlin_lexed_text.specs.Lexable.{IsIdentifier, first_of, ends_word}
+use Rattle.kotlin_lexed_text.proofs.Bytes.{Agrees, Decodes, T, character_there, low_there, is_low, both}
 
 abbrev pub Reads : Cursor → List ℕ → List ℕ → TokenKind → Type 0
 Reads p text bs x = (r : Cursor) × (piece_of (T p (text ++ bs)) ≡ token x p.position (T r bs))

@@ -1,6 +1,6 @@
 -- Which texts are cut into the tokens that stand in them: names are identifiers, each token ends where the next part begins, and no line ends
 -- directly within parentheses or square brackets.
-use Rattle.std.specs.Prelude.{◌≡◌, ℕ, Bool, true, false, not, ◌&&◌, ◌||◌, ◌==◌, nat_lt, nat_le, length, if◌then◌else◌, List, [], ◌∷◌, ◌++◌, Option, Some, None, encode_utf8_all}
+use Rattle.std.specs.Prelude.{◌≡◌, ◌⊎◌, ℕ, zero, suc, ◌+◌, ◌-◌, ◌^◌, Bool, true, false, not, ◌&&◌, ◌||◌, ◌==◌, nat_lt, length, if◌then◌else◌, List, [], ◌∷◌, Option, Some, None, encode_utf8_all}
 use Rattle.std.specs.Str.{all_scalars}
 use Rattle.std.specs.Char.{is_ascii_alphanumeric}
 use Rattle.std.specs.List.{list_all}
@@ -10,19 +10,16 @@ use Rattle.kotlin_tree.specs.declared.tokens.TokenKind.TheVariants as q
 use Rattle.kotlin_tree.specs.declared.expressions.KLiteral.{KLiteral}
 use Rattle.kotlin_tree.specs.declared.expressions.KLiteral.TheVariants as literal
 use Rattle.kotlin_tree.specs.Spellings.{mark_text}
-use Rattle.kotlin_characters.specs.declared.letters.Cursor.{Cursor}
-use Rattle.kotlin_characters.specs.Letters.{letters_from}
-use Rattle.kotlin_lexer.specs.Found.{blank, token}
 use Rattle.kotlin_lexer.specs.Names.{is_start, is_continue}
 use Rattle.kotlin_lexer.specs.declared.nesting.Bracket.{Bracket}
 use Rattle.kotlin_lexer.specs.declared.nesting.Bracket.TheVariants as b
 use Rattle.kotlin_lexer.specs.Nesting.{Open, is_listed, closes_innermost, bracket_mark, open_behind}
-use Rattle.kotlin_lexer.specs.Pieces.{piece_of}
+use Rattle.kotlin_lexer.specs.declared.pieces.Class.TheVariants as classes
+use Rattle.kotlin_lexer.specs.Pieces.{is_in}
 use Rattle.kotlin_layout.specs.declared.glyphs.Glyph.{Glyph}
 use Rattle.kotlin_layout.specs.declared.glyphs.Glyph.TheVariants as g
 use Rattle.kotlin_layout.specs.Roles.{Role, Roles}
-use Rattle.kotlin_layout.specs.Names.{is_quoted, literal_text}
-use Rattle.kotlin_canonical_text.specs.Tokens.{literal_token}
+use Rattle.kotlin_layout.specs.Names.{is_quoted}
 
 -- ---- names, comments and literals
 
@@ -35,9 +32,55 @@ pub record IsIdentifier (n : List ℕ) : Type 0 where
   pub starts : is_start first ≡ true
   pub goes_on : list_all is_continue more ≡ true
 
--- Before the end of a line the bytes are one blank, wherever they stand: a comment (Kotlin, "Whitespace and comments").
+-- a unit of 16 bits
+abbrev pub is_unit : ℕ → Bool
+is_unit u = nat_lt u (2 ^ 16)
+
+-- The literal is one of the profile: an Int is at most 2147483647 and a Long at most 9223372036854775807 (Kotlin, "Integer literals"), a character
+-- is a unit, a String consists of units.
+abbrev pub is_literal : KLiteral → Bool
+is_literal (literal.Integer n) = nat_lt n (2 ^ 31)
+is_literal (literal.Long n) = nat_lt n (2 ^ 63)
+is_literal (literal.Character u) = is_unit u
+is_literal (literal.Text us) = list_all is_unit us
+is_literal literal.True = true
+is_literal literal.False = true
+is_literal literal.Null = true
+
+-- `//`, and no end of a line behind it (Kotlin, "Whitespace and comments")
+pub record IsLineComment (text : List ℕ) : Type 0 where
+  pub characters : List ℕ
+  pub bytes : text ≡ 47 ∷ 47 ∷ encode_utf8_all characters
+  pub scalars : all_scalars characters ≡ true
+  pub on_a_line : list_all (is_in classes.Line) characters ≡ true
+
+abbrev pub first_character : List ℕ → ℕ
+first_character [] = 0
+first_character (c ∷ cs) = c
+
+abbrev pub is_one : List ℕ → Bool
+is_one (c ∷ []) = true
+is_one _ = false
+
+-- With n more comments open within, and so many characters of a mark left, these characters end with the closing mark of the outermost one, and it
+-- stands nowhere before: comments nest (Kotlin, "Whitespace and comments").
+unfoldable pub closes : ℕ → ℕ → List ℕ → Bool
+closes k n [] = false
+closes (suc k) n (c ∷ cs) = closes k n cs
+closes zero n (c ∷ cs) =
+    if (c == 42) && (first_character cs == 47) then (if n == 0 then is_one cs else closes 1 (n - 1) cs)
+    else if (c == 47) && (first_character cs == 42) then closes 1 (n + 1) cs
+    else closes 0 n cs
+
+-- `/*` to the `*/` that closes it
+pub record IsBlockComment (text : List ℕ) : Type 0 where
+  pub characters : List ℕ
+  pub bytes : text ≡ 47 ∷ 42 ∷ encode_utf8_all characters
+  pub scalars : all_scalars characters ≡ true
+  pub closed : closes 0 0 characters ≡ true
+
 abbrev pub IsComment : List ℕ → Type 0
-IsComment text = (p : Cursor) (bs : List ℕ) → (r : Cursor) × (piece_of (letters_from 0 p (text ++ 10 ∷ bs)) ≡ blank (letters_from 0 r (10 ∷ bs)))
+IsComment text = IsLineComment text ⊎ IsBlockComment text
 
 -- ---- where a token ends
 
@@ -175,26 +218,13 @@ is_shallow o (x ∷ xs) = fits o x && is_shallow (opened o x) xs
 
 -- ---- what a text consists of
 
--- what stands first, where something is told of it
-pub data Agrees (x y : Option ℕ) : Type 0 where
-  Same : x ≡ y → Agrees x y
-  Letter : (c : ℕ) → x ≡ Some c → nat_lt c 128 ≡ true → is_start c ≡ true → y ≡ Some 95 → Agrees x y
-  Digit : (c : ℕ) → x ≡ Some c → nat_le 48 c ≡ true → nat_le c 57 ≡ true → y ≡ Some 48 → Agrees x y
-  Any : y ≡ Some 200 → Agrees x y
-
--- The literal's text is its token, wherever it stands, where the text ends there.
-pub record IsLiteral (x : KLiteral) : Type 0 where
-  pub reads : (p : Cursor) (bs : List ℕ) → ends_literal x (first_of bs None) ≡ true
-      → (r : Cursor) × (piece_of (letters_from 0 p (literal_text x ++ bs)) ≡ token (literal_token x) p.position (letters_from 0 r bs))
-  pub begins : (bs : List ℕ) → Agrees (first_of (literal_text x ++ bs) None) (Some (literal_first x))
-
 abbrev pub IsPart : Role → Type 0
 IsPart (Role.Fixed x) = Unit {0}
 IsPart (Role.Name n) = IsIdentifier n
-IsPart (Role.Literal x) = IsLiteral x
+IsPart (Role.Literal x) = is_literal x ≡ true
 IsPart (Role.Comment x) = IsComment x
 
--- The names are identifiers, the comments are comments, the literals are those of Kotlin.
+-- The names are identifiers, the comments are comments, the literals are those of the profile.
 unfoldable pub AreParts : Roles → Type 0
 AreParts [] = Unit {0}
 AreParts (x ∷ xs) = IsPart x × AreParts xs

@@ -23,7 +23,9 @@ use Rattle.kotlin_printed_text.proofs.LawsToCite.{file_spelled}
 use Rattle.kotlin_text_apart.proofs.LawsToCite.{file_apart}
 use Rattle.kotlin_lexed_text.specs.Lexable.{AreParts, is_lexable}
 use Rattle.kotlin_spelling.specs.Spelling.{before_end, with_first, file_of, Spells}
-use Rattle.kotlin_reads_back.specs.ReadsBack.{IsPrinted, file_tree}
+use Rattle.kotlin_tree.specs.UpToPlaces.{unplaced_file, SameUpToPlaces}
+use Rattle.kotlin_reads_back.specs.ReadsBack.{IsReadable, IsSettled, file_tree}
+use Rattle.kotlin_reads_back.proofs.SameTree.{file_same as unplaced_same}
 use Rattle.kotlin_reads_back.proofs.Paired.{text_paired}
 
 taken : (n : ℕ) (ts : Tokens) → placeless_tokens (take n ts) ≡ take n (placeless_tokens ts)
@@ -72,7 +74,7 @@ tree_same x = ap (λ cs. record (file_of x.path (content_tree x)) { classes = cs
 abbrev pub IsLexed : Type 0
 IsLexed = (xs : Roles) → AreParts xs → is_lexable [] xs ≡ true → (ts : Tokens) × Lexes (text_of xs) ts × (placeless_tokens ts ≡ tokens gap.Plain xs ++ token q.End (gap_behind gap.Plain xs) ∷ [])
 
-pub printed_spelled : IsLexed → (x : KFile) → IsPrinted x → (z : KFile) × Spells x.path z (KText x) × (placeless_file z ≡ file_tree x)
+pub printed_spelled : IsLexed → (x : KFile) → IsReadable x → (z : KFile) × Spells x.path z (KText x) × (placeless_file z ≡ file_tree x)
 unfolding KText
 printed_spelled lexed x is =
     let xs = file_roles x in
@@ -83,3 +85,17 @@ printed_spelled lexed x is =
       record { tokens = l.0; lexes = l.1; paired = text_paired xs l.0 (file_apart x) is.shallow l.2; content = z.0; spelled = z.1; is = refl },
       file_same x.path z.0 ∙ ap (file_of x.path) z.2 ∙ tree_same x,
     )
+
+pub settled_read : IsLexed → (x : KFile) → IsReadable x → IsSettled x → (z : KFile) × Spells x.path z (KText x) × SameUpToPlaces z x
+settled_read lexed x is settled =
+    let r = printed_spelled lexed x is in
+    (r.0, r.1, sym (unplaced_same r.0) ∙ ap unplaced_file r.2 ∙ settled)
+
+-- Bytes spell at most one file: the law of kotlin_spelling.
+abbrev pub IsOne : Type 0
+IsOne = (path bytes : List ℕ) (x y : KFile) → Spells path x bytes → Spells path y bytes → x ≡ y
+
+pub only_settled : IsLexed → IsOne → (x z : KFile) → IsReadable x → IsSettled x → Spells x.path z (KText x) → SameUpToPlaces z x
+only_settled lexed one x z is settled spelled =
+    let r = settled_read lexed x is settled in
+    subst (λ y. SameUpToPlaces y x) (one x.path (KText x) r.0 z r.1 spelled) r.2

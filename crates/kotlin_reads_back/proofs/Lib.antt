@@ -1,3 +1,4 @@
 mod Joined
-pub mod LawsToCite
 mod Paired
+mod SameTree
+mod Worked

@@ -2,7 +2,7 @@
 use Rattle.std.specs.Prelude.{◌≡◌, true, [], map}
 use Rattle.std.specs.Option.{option_map}
 use Rattle.kotlin_tree.specs.declared.files.KFile.{KFile}
-use Rattle.kotlin_tree.specs.UpToPlaces.{unplaced_package, unplaced_import}
+use Rattle.kotlin_tree.specs.UpToPlaces.{unplaced_package, unplaced_import, SameUpToPlaces}
 use Rattle.kotlin_layout.specs.Shown.{file_roles}
 use Rattle.kotlin_canonical_text.specs.Members.{class_tree}
 use Rattle.kotlin_printed_text.specs.Printed.{file_readable}
@@ -13,7 +13,11 @@ unfoldable pub file_tree : KFile → KFile
 file_tree x = record { path = x.path; «package» = option_map unplaced_package x.package; imports = map unplaced_import x.imports; classes = map class_tree x.classes }
 
 -- Its text is read: the grammar takes it, its names, literals and comments are those of Kotlin, and no more than 1,600 brackets are open at once.
-pub record IsPrinted (x : KFile) : Type 0 where
+pub record IsReadable (x : KFile) : Type 0 where
   pub readable : file_readable x ≡ true
   pub parts : AreParts (file_roles x)
   pub shallow : is_shallow [] (file_roles x) ≡ true
+
+-- It is its own canonical tree up to places: its text adds no parentheses, and its modifiers stand in their order.
+abbrev pub IsSettled : KFile → Type 0
+IsSettled x = SameUpToPlaces (file_tree x) x

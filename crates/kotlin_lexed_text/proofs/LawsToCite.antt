@@ -1,2 +1,0 @@
--- What other crates may cite.
-pub use Rattle.kotlin_lexed_text.proofs.Cutting.{ended, roles_lexed}

@@ -1,2 +1,0 @@
--- What other crates may cite.
-pub use Rattle.kotlin_reads_back.proofs.Joined.{printed_spelled}
