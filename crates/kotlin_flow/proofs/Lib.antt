@@ -1,0 +1,4 @@
+pub mod Targets
+pub mod Forms
+pub mod Runs
+pub mod Noted
