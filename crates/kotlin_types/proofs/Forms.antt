@@ -6,7 +6,7 @@ use Rattle.kotlin_types.specs.declared.kinds.KHead.{KHead}
 use Rattle.kotlin_types.specs.declared.kinds.Nullability.{Nullability}
 use Rattle.kotlin_types.specs.declared.kinds.KKind.{KKind, roll-KKind, out-KKind, map-KKind, fold-roll-KKind, out-roll-KKind, roll-out-KKind}
 use Rattle.kotlin_types.specs.declared.kinds.KKind.TheOpen.{KKind-F}
-use Rattle.kotlin_types.specs.Types.{arguments_of, head_of, nullability_of, put, put_head, same, same_by, type}
+use Rattle.kotlin_types.specs.Types.{arguments_of, head_of, nullability_of, put, put_head, same, same_by, same_each, same_head, same_nullability, type}
 
 pub out_type : (h : KHead) (args : List KKind) (n : Nullability) → out-KKind (type h args n) ≡ record { head = h; arguments = args; nullability = n }
 out_type h args n = out-roll-KKind (record { head = h; arguments = args; nullability = n })
@@ -30,3 +30,10 @@ pub put_at : (own : KClassRef) (args : List KKind) (h : KHead) (inner : List KKi
     put own args (type h inner n) ≡ put_head own args h (map (put own args) inner) n
 unfolding put
 put_at own args h inner n = fold-roll-KKind KKind (λ x. put_head own args x.head x.arguments x.nullability) (record { head = h; arguments = inner; nullability = n })
+
+-- of types whose parts are known
+pub same_types : (g h : KHead) (xs ys : List KKind) (n m : Nullability) →
+    same (type g xs n) (type h ys m) ≡ (same_head g h && (same_each (map same xs) ys && same_nullability n m))
+same_types g h xs ys n m =
+    same_at (record { head = g; arguments = xs; nullability = n }) (type h ys m)
+    ∙ ap (same_by (record { head = g; arguments = map same xs; nullability = n })) (out_type h ys m)
