@@ -5,3 +5,4 @@ pub mod Members
 pub mod Operators
 pub mod Forms
 pub mod Typing
+pub mod Premises

@@ -21,6 +21,9 @@ use Rattle.kotlin_tree.specs.declared.expressions.KPostfix.TheVariants as postfi
 use Rattle.kotlin_tree.specs.declared.expressions.KBinary.{KBinary}
 use Rattle.kotlin_tree.specs.declared.expressions.KBinary.TheVariants as binary
 use Rattle.kotlin_tree.specs.declared.expressions.KExpr.{KExpr, fold-KExpr}
+use Rattle.kotlin_tree.specs.declared.expressions.KChoice.{KChoice, fold-KChoice}
+use Rattle.kotlin_tree.specs.declared.statements.KBranch.{KBranch, fold-KBranch}
+use Rattle.kotlin_tree.specs.declared.statements.KCatch.{KCatch, fold-KCatch}
 use Rattle.kotlin_tree.specs.declared.expressions.KExpr.TheOpen.{KExpr-F, KStmt-F, KChoice-F, KBranch-F, KCatch-F}
 use Rattle.kotlin_tree.specs.declared.statements.KVariability.{KVariability}
 use Rattle.kotlin_tree.specs.declared.statements.KVariability.TheVariants as word
@@ -459,8 +462,8 @@ abbrev pub row_of : KDeclared → KStore → KKind → KLocal
 row_of x store kind = record { name = x.name.name; kind = kind; store = store; is_parameter = false }
 
 abbrev pub store_of : KVariability → KStore → KStore
-store_of word.Val fixed = fixed
-store_of word.Var fixed = store.Free
+store_of word.Val of_val = of_val
+store_of word.Var of_val = store.Free
 
 abbrev pub declares_by : KTables → KStmt-F Form Line Choice Branch Catch → Option KLocal
 declares_by w (KStmt-F.Commented comments x) = x.declares
@@ -597,3 +600,12 @@ form w = fold-KExpr Form Line Choice Branch Catch (form_by w) (line_by w) choice
 
 unfoldable pub line : KTables → KStmt → Line
 line w = fold-KStmt Form Line Choice Branch Catch (form_by w) (line_by w) choice_by branch_by (catch_by w)
+
+unfoldable pub choice_form : KTables → KChoice → Choice
+choice_form w = fold-KChoice Form Line Choice Branch Catch (form_by w) (line_by w) choice_by branch_by (catch_by w)
+
+unfoldable pub branch_form : KTables → KBranch → Branch
+branch_form w = fold-KBranch Form Line Choice Branch Catch (form_by w) (line_by w) choice_by branch_by (catch_by w)
+
+unfoldable pub catch_form : KTables → KCatch → Catch
+catch_form w = fold-KCatch Form Line Choice Branch Catch (form_by w) (line_by w) choice_by branch_by (catch_by w)
