@@ -66,7 +66,7 @@ one_nearest : (name : List ℕ) (r : KLocal) (rows : List KLocal) (row : KLocal)
 one_nearest name r rows row false none is h = cc
 one_nearest name r rows row true none is h =
     subst (IsNearest name (r ∷ rows)) (some_same r row h)
-      (record { before = []; after = rows; among = refl; named = is; last = λ other some more split. none_there name other some more (subst (λ z. nearest name z ≡ None) split none) })
+    (record { before = []; after = rows; among = refl; named = is; last = λ other some more split. none_there name other some more (subst (λ z. nearest name z ≡ None) split none) })
 
 nearest_by : (name : List ℕ) (r : KLocal) (rows : List KLocal) (row : KLocal) (o : Option KLocal) → nearest name rows ≡ o → nearer o r name ≡ Some row → (o ≡ Some row → IsNearest name rows row) → IsNearest name (r ∷ rows) row
 nearest_by name r rows row None is h rest = one_nearest name r rows row (bytes_eq r.name name) is refl h
@@ -132,23 +132,25 @@ module _ (w : KTables) where
   pub local_placed : (s : KScope) (x : KDeclared) (at : Position) (value : KExpr) (want : KKind) → meant w x.kind ≡ Some want → IsTypedStatement w s (st.Local x at value) → IsPlaced w s value want
   local_placed s x at value want is h =
       placed s value want (subst (λ o. faults_in (as_placed w (form w value) s o) ≡ []) is
-        (clean_right (written w x.kind s.path).notes (as_placed w (form w value) s (meant w x.kind)) (subst (λ (l : Line). faults_in (l.notes s) ≡ []) (q.on_Local w x at value) h)))
+      (clean_right (written w x.kind s.path).notes (as_placed w (form w value) s (meant w x.kind)) (subst (λ (l : Line). faults_in (l.notes s) ≡ []) (q.on_Local w x at value) h)))
 
   pub expression_typed : (s : KScope) (x : KExpr) → IsTypedStatement w s (st.Expression x) → IsTyped w s x
   expression_typed s x h = subst (λ (l : Line). faults_in (l.notes s) ≡ []) (q.on_Expression w x) h
 
   pub if_told : (s : KScope) (at : KHeadAt) (condition : KExpr) (curly : Brackets) (xs : List KStmt) → IsTypedStatement w s (st.If at condition curly xs) → IsPlaced w s condition boolean × AreTyped w s xs
   if_told s at condition curly xs h =
-      let all = subst (λ (l : Line). faults_in (l.notes s) ≡ []) (q.on_If w at condition curly xs) h in
-      (placed s condition boolean (clean_left (as_wanted w (form w condition) s boolean) _ all),
-       clean_right (as_wanted w (form w condition) s boolean) (lines_notes (map (line w) xs) s) all)
+      let all = subst (λ (l : Line). faults_in (l.notes s) ≡ []) (q.on_If w at condition curly xs) h in (
+        placed s condition boolean (clean_left (as_wanted w (form w condition) s boolean) _ all),
+        clean_right (as_wanted w (form w condition) s boolean) (lines_notes (map (line w) xs) s) all,
+      )
 
   pub while_told : (s : KScope) (label : Option KLabel) (at : KHeadAt) (condition : KExpr) (curly : Brackets) (xs : List KStmt) → IsTypedStatement w s (st.While label at condition curly xs) →
       IsPlaced w s condition boolean × AreTyped w (in_loop (t.label_of label) s) xs
   while_told s label at condition curly xs h =
-      let all = subst (λ (l : Line). faults_in (l.notes s) ≡ []) (q.on_While w label at condition curly xs) h in
-      (placed s condition boolean (clean_left (as_wanted w (form w condition) s boolean) _ all),
-       clean_right (as_wanted w (form w condition) s boolean) (lines_notes (map (line w) xs) (in_loop (t.label_of label) s)) all)
+      let all = subst (λ (l : Line). faults_in (l.notes s) ≡ []) (q.on_While w label at condition curly xs) h in (
+        placed s condition boolean (clean_left (as_wanted w (form w condition) s boolean) _ all),
+        clean_right (as_wanted w (form w condition) s boolean) (lines_notes (map (line w) xs) (in_loop (t.label_of label) s)) all,
+      )
 
   pub throw_placed : (s : KScope) (at : Position) (x : KExpr) → IsTypedStatement w s (st.Throw at x) → IsPlaced w s x t.throwable
   throw_placed s at x h = placed s x t.throwable (subst (λ (l : Line). faults_in (l.notes s) ≡ []) (q.on_Throw w at x) h)
@@ -170,9 +172,10 @@ module _ (w : KTables) where
 
   -- statements in their order: the first at this place, the others behind it
   pub first_told : (s : KScope) (x : KStmt) (xs : List KStmt) → AreTyped w s (x ∷ xs) → IsTypedStatement w s x × AreTyped w (behind_statement w s x) xs
-  first_told s x xs h =
-      (clean_left ((line w x).notes s) _ (clean_left (line_notes (line w x) s) _ h),
-       clean_right (line_notes (line w x) s) (lines_notes (map (line w) xs) (behind_statement w s x)) h)
+  first_told s x xs h = (
+    clean_left ((line w x).notes s) _ (clean_left (line_notes (line w x) s) _ h),
+    clean_right (line_notes (line w x) s) (lines_notes (map (line w) xs) (behind_statement w s x)) h,
+  )
 
   -- the value of an assignment is below its target's type, and the target is open
   open_told : (s : KScope) (at : Position) (b : Bool) → faults_in (if b then [] else fault s 10 at) ≡ [] → b ≡ true
@@ -184,6 +187,7 @@ module _ (w : KTables) where
   assign_told s target at value to is h =
       let all = subst (λ (l : Line). faults_in (l.notes s) ≡ []) (q.on_Assign w target at value) h in
       let rest = subst (λ o. faults_in (t.assign_by w s (form w target).first (form w value) o) ≡ []) is
-            (clean_right ((form w target).target s).notes (t.assign_by w s (form w target).first (form w value) ((form w target).target s).result) all) in
-      (open_told s (form w target).first to.is_open (clean_left (if to.is_open then [] else fault s 10 (form w target).first) _ rest),
-       placed s value to.kind (clean_right (if to.is_open then [] else fault s 10 (form w target).first) (as_wanted w (form w value) s to.kind) rest))
+      (clean_right ((form w target).target s).notes (t.assign_by w s (form w target).first (form w value) ((form w target).target s).result) all) in (
+        open_told s (form w target).first to.is_open (clean_left (if to.is_open then [] else fault s 10 (form w target).first) _ rest),
+        placed s value to.kind (clean_right (if to.is_open then [] else fault s 10 (form w target).first) (as_wanted w (form w value) s to.kind) rest),
+      )
