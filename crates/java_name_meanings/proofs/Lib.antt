@@ -1,1 +1,3 @@
 mod Outcomes
+mod Effects
+mod Extents
