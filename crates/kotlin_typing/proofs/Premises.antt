@@ -2,7 +2,7 @@
 use Rattle.std.proofs.Common.{◌≡◌, ℕ, Bool, true, false, List, [], ◌∷◌, ◌++◌, map, Option, Some, None, refl, sym, ap, subst, ◌∙◌}
 use Rattle.std.specs.Prelude.{◌&&◌, IsSome, if◌then◌else◌, bytes_eq, find}
 use Rattle.judged.specs.Notes.{faults_in}
-use Rattle.judged.specs.Judged.{after, both, each, pair, ◌>>=◌}
+use Rattle.judged.specs.Judged.{after, begun, both, each, pair, ◌>>=◌}
 use Rattle.kotlin_tree.specs.declared.places.Position.{Position}
 use Rattle.kotlin_tree.specs.declared.places.Brackets.{Brackets}
 use Rattle.kotlin_tree.specs.declared.types.KName.{KName}
@@ -187,3 +187,95 @@ module _ (w : KTables) where
             (clean_right ((form w target).target s).notes (t.assign_by w s (form w target).first (form w value) ((form w target).target s).result) all) in
       (open_told s (form w target).first to.is_open (clean_left (if to.is_open then [] else fault s 10 (form w target).first) _ rest),
        placed s value to.kind (clean_right (if to.is_open then [] else fault s 10 (form w target).first) (as_wanted w (form w value) s to.kind) rest))
+
+-- ---- members
+
+and_first : (a b : Bool) → (a && b) ≡ true → a ≡ true
+and_first true b h = refl
+and_first false b h = cc
+
+property_told : (s : KScope) (at : Position) (b : Bool) (o : Option Stored) (k : KKind) →
+    faults_in (if b then kind_or s 1 at o else faulty s 4 at).notes ≡ [] → (after (if b then kind_or s 1 at o else faulty s 4 at).result t.kind_of).result ≡ Some k →
+    (b ≡ true) × ((x : Stored) × (o ≡ Some x) × (x.kind ≡ k))
+property_told s at true None k h i = cc
+property_told s at true (Some x) k h i = (refl, (x, refl, some_same x.kind k i))
+property_told s at false o k h i = cc
+
+module _ (w : KTables) where
+  each_told : (s : KScope) (xs : List KExpr) → faults_in (each (map (judged s) (map (form w) xs))).notes ≡ [] →
+      (ks : List KKind) × ((each (map (judged s) (map (form w) xs))).result ≡ Some ks) × AllHave w s xs ks
+  each_told s [] h = ([], refl, tt)
+  each_told s (x ∷ xs) h =
+      let first = has_type w s x (clean_left ((form w x).judge s).notes _ h) in
+      let rest = each_told s xs (clean_right ((form w x).judge s).notes (each (map (judged s) (map (form w) xs))).notes h) in
+      (first.0 ∷ rest.0, ap (λ o. begun o (each (map (judged s) (map (form w) xs))).result) first.1.is ∙ ap (begun (Some first.0)) rest.1, (first.1, rest.2))
+
+  pub field_told : (s : KScope) (x : KExpr) (dot : Position) (n : KName) (k : KKind) → static w s (form w x).path ≡ None → HasType w s (e.Field x dot n) k → IsRead w s x n.name k
+  field_told s x dot n k none h =
+      let notes = subst (λ o. faults_in (t.field_by w s (form w x) n.name o >>= t.kind_of).notes ≡ []) none (subst (λ (f : Form). faults_in (f.judge s).notes ≡ []) (q.on_Field w x dot n) h.clean) in
+      let gives = subst (λ o. (t.field_by w s (form w x) n.name o >>= t.kind_of).result ≡ Some k) none (subst (λ (f : Form). (f.judge s).result ≡ Some k) (q.on_Field w x dot n) h.is) in
+      let reads = clean_left (t.field_by w s (form w x) n.name None).notes (after (t.field_by w s (form w x) n.name None).result t.kind_of).notes notes in
+      let found = has_type w s x (clean_left ((form w x).judge s).notes (after ((form w x).judge s).result (t.property_in w s (form w x).first (form w x).is_this n.name)).notes reads) in
+      let told = property_told s (form w x).first (is_sure found.0) (t.property_of w s (form w x).is_this n.name found.0) k
+            (subst (λ o. faults_in (after o (t.property_in w s (form w x).first (form w x).is_this n.name)).notes ≡ []) found.1.is
+              (clean_right ((form w x).judge s).notes (after ((form w x).judge s).result (t.property_in w s (form w x).first (form w x).is_this n.name)).notes reads))
+            (subst (λ o. (after (after o (t.property_in w s (form w x).first (form w x).is_this n.name)).result t.kind_of).result ≡ Some k) found.1.is gives) in
+      record { object = record { kind = found.0; typed = found.1; sure = told.0 }; found = told.1.0; is = told.1.1; kind = told.1.2 }
+
+  picked_told : (s : KScope) (at : Position) (b : Bool) (o : Option KCallable) (k : KKind) → (t.picked s at b o).result ≡ Some k → (m : KCallable) × (o ≡ Some m) × (m.result ≡ k)
+  picked_told s at b (Some m) k h = (m, refl, some_same m.result k h)
+  picked_told s at true None k h = cc
+  picked_told s at false None k h = cc
+
+  called_told : (s : KScope) (at : Position) (args : List KKind) (found : List KCallable) (k : KKind) → (t.called w s at args found).result ≡ Some k →
+      (m : KCallable) × (chosen w args found ≡ Some m) × (m.result ≡ k)
+  called_told s at args [] k h = cc
+  called_told s at args (m ∷ more) k h = picked_told s at (none_applies w args (m ∷ more)) (chosen w args (m ∷ more)) k h
+
+  means_called : (s : KScope) (at : Position) (name : List ℕ) (r : KKind) (args : List KKind) (k : KKind) → is_sure r ≡ true → (t.called w s at args (callables_of w s name r)).result ≡ Some k → Means w s name r args k
+  means_called s at name r args k sure h =
+      let told = called_told s at args (callables_of w s name r) k h in
+      called sure (record {
+        callable = told.0;
+        chosen_of_all = told.1;
+        below = and_first (is_applicable w args told.0) (is_most_specific w args (callables_of w s name r) told.0)
+            (find_tells (is_chosen w args (callables_of w s name r)) (callables_of w s name r) told.0 told.1);
+        result = told.2;
+      })
+
+  means_sure : (s : KScope) (at : Position) (name : List ℕ) (r : KKind) (args : List KKind) (k : KKind) (o : Option KKind) → is_sure r ≡ true → t.given_by name r args ≡ o →
+      (t.method_by w s at name r args o).result ≡ Some k → Means w s name r args k
+  means_sure s at name r args k (Some g) sure is h = given sure (is ∙ h)
+  means_sure s at name r args k None sure is h = means_called s at name r args k sure h
+
+  means_text : (s : KScope) (at : Position) (name : List ℕ) (r : KKind) (args : List KKind) (k : KKind) (b : Bool) → t.is_text name args ≡ b →
+      (if b then record { result = Some string; notes = [] } else faulty s 4 at).result ≡ Some k → Means w s name r args k
+  means_text s at name r args k true is h = text is (some_same string k h)
+  means_text s at name r args k false is h = cc
+
+  means : (s : KScope) (at : Position) (name : List ℕ) (r : KKind) (args : List KKind) (k : KKind) (b : Bool) → is_sure r ≡ b →
+      (if b then t.method_by w s at name r args (t.given_by name r args) else if t.is_text name args then record { result = Some string; notes = [] } else faulty s 4 at).result ≡ Some k →
+      Means w s name r args k
+  means s at name r args k true is h = means_sure s at name r args k (t.given_by name r args) is refl h
+  means s at name r args k false is h = means_text s at name r args k (t.is_text name args) refl h
+
+  pub method_told : (s : KScope) (x : KExpr) (dot : Position) (n : KName) (types : Option KTypeArguments) (round : Brackets) (xs : List KExpr) (commas : List Position) (k : KKind) →
+      static w s (form w x).path ≡ None → HasType w s (e.Method x dot n types round xs commas) k → IsMethodCall w s x n.name xs k
+  method_told s x dot n types round xs commas k none h =
+      let notes = subst (λ o. faults_in (t.method_at w s (form w x) n.name (map (form w) xs) o).notes ≡ []) none
+            (clean_right (t.untyped s (form w x).first types) (t.method_at w s (form w x) n.name (map (form w) xs) (static w s (form w x).path)).notes
+              (subst (λ (f : Form). faults_in (f.judge s).notes ≡ []) (q.on_Method w x dot n types round xs commas) h.clean)) in
+      let gives = subst (λ o. (t.method_at w s (form w x) n.name (map (form w) xs) o).result ≡ Some k) none (subst (λ (f : Form). (f.judge s).result ≡ Some k) (q.on_Method w x dot n types round xs commas) h.is) in
+      let two = pair ((form w x).judge s) (t.arguments s (map (form w) xs)) in
+      let parts = clean_left two.notes (after two.result (t.method_in w s (form w x).first n.name)).notes notes in
+      let object = has_type w s x (clean_left ((form w x).judge s).notes (t.arguments s (map (form w) xs)).notes parts) in
+      let args = each_told s xs (clean_right ((form w x).judge s).notes (t.arguments s (map (form w) xs)).notes parts) in
+      record {
+        object = object.0;
+        typed = object.1;
+        kinds = args.0;
+        arguments = args.2;
+        means = means s (form w x).first n.name object.0 args.0 k (is_sure object.0) refl
+            (subst (λ o. (after (both (Some object.0) o) (t.method_in w s (form w x).first n.name)).result ≡ Some k) args.1
+              (subst (λ o. (after (both o (t.arguments s (map (form w) xs)).result) (t.method_in w s (form w x).first n.name)).result ≡ Some k) object.1.is gives));
+      }
