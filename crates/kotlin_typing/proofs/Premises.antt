@@ -1,6 +1,6 @@
 -- What is known of the parts of a well typed one.
-use Rattle.std.proofs.Common.{◌≡◌, ℕ, Bool, true, false, List, [], ◌∷◌, ◌++◌, map, Option, Some, None, refl, sym, ap, subst, ◌∙◌}
-use Rattle.std.specs.Prelude.{◌&&◌, IsSome, if◌then◌else◌, bytes_eq, find}
+use Rattle.std.proofs.Common.{◌≡◌, ◌⊎◌, inl, inr, ℕ, Bool, true, false, List, [], ◌∷◌, ◌++◌, map, Option, Some, None, refl, sym, ap, subst, ◌∙◌}
+use Rattle.std.specs.Prelude.{◌&&◌, ◌||◌, IsSome, if◌then◌else◌, bytes_eq, find}
 use Rattle.judged.specs.Notes.{faults_in}
 use Rattle.judged.specs.Judged.{after, begun, both, each, pair, ◌>>=◌}
 use Rattle.kotlin_tree.specs.declared.places.Position.{Position}
@@ -23,13 +23,15 @@ use Rattle.kotlin_typing.specs.declared.scope.KScope.{KScope}
 use Rattle.kotlin_typing.specs.declared.tables.KCallable.{KCallable}
 use Rattle.kotlin_typing.specs.declared.tables.KTables.{KTables}
 use Rattle.kotlin_typing.specs.Notes.{Notes, Typed, fault, faulty}
-use Rattle.kotlin_typing.specs.Scopes.{declared, in_lock, in_loop, nearer, nearest, past, reaches}
+use Rattle.kotlin_typing.specs.declared.scope.KAround.{KAround}
+use Rattle.kotlin_typing.specs.declared.scope.KAround.TheVariants as around
+use Rattle.kotlin_typing.specs.Scopes.{is_meant, reaches_from, declared, in_lock, in_loop, nearer, nearest, past, reaches}
 use Rattle.kotlin_typing.specs.Written.{Path, meant, written}
 use Rattle.kotlin_typing.specs.Members.{all_below, callables_of, chosen, is_applicable, is_chosen, is_most_specific, none_applies}
 use Rattle.kotlin_typing.specs.Forms.{Form, Line, Stored, as_placed, as_sure, as_wanted, fits, judged, kind_or, line_notes, lines_notes, mismatch, sure_by, twice}
 use Rattle.kotlin_typing.specs.Typing as t
 use Rattle.kotlin_typing.specs.Typing.{form, line, static}
-use Rattle.kotlin_typing.specs.Premises.{AllHave, AreTyped, HasType, IsCalled, IsMethodCall, IsNearest, IsPlaced, IsRead, IsSureValue, IsTyped, IsTypedStatement, Means, behind_statement, called, given, text}
+use Rattle.kotlin_typing.specs.Premises.{AreLoops, FindsLoop, AllHave, AreTyped, HasType, IsCalled, IsMethodCall, IsNearest, IsPlaced, IsRead, IsSureValue, IsTyped, IsTypedStatement, Means, behind_statement, called, given, text}
 use Rattle.kotlin_typing.proofs.Equations as q
 use Rattle.kotlin_typing.proofs.Whole.{clean_left, clean_right, whole}
 
@@ -279,3 +281,39 @@ module _ (w : KTables) where
             (subst (λ o. (after (both (Some object.0) o) (t.method_in w s (form w x).first n.name)).result ≡ Some k) args.1
               (subst (λ o. (after (both o (t.arguments s (map (form w) xs)).result) (t.method_in w s (form w x).first n.name)).result ≡ Some k) object.1.is gives));
       }
+
+-- ---- jumps
+
+further : (target : Option (List ℕ)) (a : KAround) (rows : List KAround) → FindsLoop target rows → FindsLoop target (a ∷ rows)
+further target a rows f = record { before = a ∷ f.before; after = f.after; label = f.label; among = ap (λ z. a ∷ z) f.among; meant = f.meant; loops = f.loops }
+
+in_loop_told : (target l : Option (List ℕ)) (more : List KAround) (found m : Bool) → is_meant target l ≡ m → (found || m) ≡ true → AreLoops more → ((found ≡ true) × AreLoops (around.Loop l ∷ more)) ⊎ FindsLoop target (around.Loop l ∷ more)
+in_loop_told target l more found true is h loops = inr (record { before = []; after = more; label = l; among = refl; meant = is; loops = loops })
+in_loop_told target l more true false is h loops = inl (refl, loops)
+in_loop_told target l more false false is h loops = cc
+
+past_wall : (target : Option (List ℕ)) (a : KAround) (more : List KAround) (C : Type 0) → (((false ≡ true) × AreLoops more) ⊎ FindsLoop target more) → C ⊎ FindsLoop target (a ∷ more)
+past_wall target a more C (inl h) = cc
+past_wall target a more C (inr f) = inr (further target a more f)
+
+past_loop : (target l : Option (List ℕ)) (more : List KAround) (found : Bool) → (((found || is_meant target l) ≡ true) × AreLoops more) ⊎ FindsLoop target more → ((found ≡ true) × AreLoops (around.Loop l ∷ more)) ⊎ FindsLoop target (around.Loop l ∷ more)
+past_loop target l more found (inl h) = in_loop_told target l more found (is_meant target l) refl h.0 h.1
+past_loop target l more found (inr f) = inr (further target (around.Loop l) more f)
+
+reached : (target : Option (List ℕ)) (found : Bool) (rows : List KAround) → reaches_from target found rows ≡ true → ((found ≡ true) × AreLoops rows) ⊎ FindsLoop target rows
+reached target found [] h = inl (h, tt)
+reached target found (around.Loop l ∷ more) h = past_loop target l more found (reached target (found || is_meant target l) more h)
+reached target found (around.Run ∷ more) h = past_wall target around.Run more _ (reached target false more h)
+reached target found (around.Lambda face ∷ more) h = past_wall target (around.Lambda face) more _ (reached target false more h)
+reached target found (around.Lock ∷ more) h = past_wall target around.Lock more _ (reached target false more h)
+
+from_nothing : (target : Option (List ℕ)) (rows : List KAround) → ((false ≡ true) × AreLoops rows) ⊎ FindsLoop target rows → FindsLoop target rows
+from_nothing target rows (inl h) = cc
+from_nothing target rows (inr f) = f
+
+module _ (w : KTables) where
+  pub break_finds : (s : KScope) (at : Position) (target : Option KTarget) → IsTypedStatement w s (st.Break at target) → FindsLoop (t.target_of target) s.around
+  break_finds s at target h = from_nothing (t.target_of target) s.around (reached (t.target_of target) false s.around (break_told w s at target h))
+
+  pub continue_finds : (s : KScope) (at : Position) (target : Option KTarget) → IsTypedStatement w s (st.Continue at target) → FindsLoop (t.target_of target) s.around
+  continue_finds s at target h = from_nothing (t.target_of target) s.around (reached (t.target_of target) false s.around (continue_told w s at target h))

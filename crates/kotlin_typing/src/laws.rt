@@ -18,11 +18,11 @@ ghost use Rattle.kotlin_types.specs.Types.{boolean};
 ghost use Rattle.kotlin_typing.specs.declared.scope.KLocal.{KLocal};
 ghost use Rattle.kotlin_typing.specs.declared.scope.KScope.{KScope};
 ghost use Rattle.kotlin_typing.specs.declared.tables.KTables.{KTables};
-ghost use Rattle.kotlin_typing.specs.Scopes.{in_lock, in_loop, reaches};
+ghost use Rattle.kotlin_typing.specs.Scopes.{in_lock, in_loop};
 ghost use Rattle.kotlin_typing.specs.Written.{meant};
 ghost use Rattle.kotlin_typing.specs.Forms.{Stored};
 ghost use Rattle.kotlin_typing.specs.Typing.{form, label_of, static, target_of, throwable};
-ghost use Rattle.kotlin_typing.specs.Premises.{AreTyped, HasType, IsMethodCall, IsNearest, IsPlaced, IsRead, IsSureValue, IsTyped, IsTypedStatement, behind_statement};
+ghost use Rattle.kotlin_typing.specs.Premises.{AreTyped, FindsLoop, HasType, IsMethodCall, IsNearest, IsPlaced, IsRead, IsSureValue, IsTyped, IsTypedStatement, behind_statement};
 
 /// Where no fault is noted an expression has a type, and one alone.
 pub fn one_type()
@@ -59,6 +59,6 @@ pub fn statements_are_typed()
 
 /// A jump finds its loop, and leaves no `run`, lambda or `synchronized` on its way.
 pub fn jumps_find_their_loops()
-    ensures broken { (w : KTables) (s : KScope) (at : Position) (target : Option KTarget) → IsTypedStatement w s (st.Break at target) → reaches (target_of target) s ≡ true }
-    ensures continued { (w : KTables) (s : KScope) (at : Position) (target : Option KTarget) → IsTypedStatement w s (st.Continue at target) → reaches (target_of target) s ≡ true }
+    ensures broken { (w : KTables) (s : KScope) (at : Position) (target : Option KTarget) → IsTypedStatement w s (st.Break at target) → FindsLoop (target_of target) s.around }
+    ensures continued { (w : KTables) (s : KScope) (at : Position) (target : Option KTarget) → IsTypedStatement w s (st.Continue at target) → FindsLoop (target_of target) s.around }
 {}
