@@ -7,10 +7,12 @@ use Rattle.kotlin_types.specs.declared.kinds.KKind.{KKind}
 use Rattle.kotlin_types.specs.Types.{is_sure, string}
 use Rattle.kotlin_types.specs.Supertypes.{is_subtype}
 use Rattle.kotlin_typing.specs.declared.scope.KLocal.{KLocal}
+use Rattle.kotlin_typing.specs.declared.scope.KAround.{KAround}
+use Rattle.kotlin_typing.specs.declared.scope.KAround.TheVariants as around
 use Rattle.kotlin_typing.specs.declared.scope.KScope.{KScope}
 use Rattle.kotlin_typing.specs.declared.tables.KCallable.{KCallable}
 use Rattle.kotlin_typing.specs.declared.tables.KTables.{KTables}
-use Rattle.kotlin_typing.specs.Scopes.{declared}
+use Rattle.kotlin_typing.specs.Scopes.{declared, is_meant}
 use Rattle.kotlin_typing.specs.Members.{all_below, callables_of, chosen}
 use Rattle.kotlin_typing.specs.Forms.{Stored, lines_notes}
 use Rattle.kotlin_typing.specs.Typing.{form, given_by, is_text, line, property_of}
@@ -90,3 +92,21 @@ pub record IsMethodCall (w : KTables) (s : KScope) (x : KExpr) (name : List ℕ)
   pub kinds : List KKind
   pub arguments : AllHave w s xs kinds
   pub means : Means w s name object kinds k
+
+-- ---- jumps
+
+abbrev pub AreLoops : List KAround → Type 0
+AreLoops [] = Unit {0}
+AreLoops (around.Loop label ∷ more) = AreLoops more
+AreLoops (around.Run ∷ more) = ⊥
+AreLoops (around.Lambda face ∷ more) = ⊥
+AreLoops (around.Lock ∷ more) = ⊥
+
+-- the loop that a jump means, and nothing but loops within it
+pub record FindsLoop (target : Option (List ℕ)) (all : List KAround) : Type 0 where
+  pub before : List KAround
+  pub after : List KAround
+  pub label : Option (List ℕ)
+  pub among : all ≡ before ++ around.Loop label ∷ after
+  pub meant : is_meant target label ≡ true
+  pub loops : AreLoops after

@@ -2,6 +2,7 @@
 //! case of the typing takes.
 #![tactic(auto)]
 
+pub mod laws;
 mod scope;
 mod tables;
 
