@@ -4,8 +4,9 @@ use Rattle.flow.specs.Acts.{Act, Does, Then}
 use Rattle.flow.specs.Analyses.{Use, Reads, Assigns, Reaches, flow, assignment, unassignment}
 use Rattle.flow.specs.Standing.{one_if}
 use Rattle.flow.specs.Runs.{Events, Nothing, Did, Made, append, Normal, Runs, FindsAssigned, times}
-use Rattle.flow.proofs.States.{TellsApart}
-use Rattle.flow.proofs.Laws.{reads_are_assigned, assigned_once}
+use Rattle.flow.proofs.States.{TellsApart, behinds, at_end}
+use Rattle.flow.proofs.Sound.{sound}
+use Rattle.flow.proofs.Laws.{reads_are_assigned, assigned_once, assignment_sound}
 
 not_both : (b : Bool) → b ≡ true → b ≡ false → ⊥
 not_both true h k = cc
@@ -22,6 +23,18 @@ further false b n h = let k : 1 ≤ n = h refl in omega arith
 none_or : (i b : Bool) → i ≡ false → b ≡ false → (i || b) ≡ false
 none_or false b h k = k
 none_or true b h k = cc
+
+module _ {V P : Type 0} (is : V → Bool) where
+  assigned_behind_runs : (es : Events (Use V P)) (b : Bool) → behinds (assignment is) b es ≡ true → b ≡ false → 1 ≤ times is es
+  assigned_behind_runs Nothing b h none = absurd (not_both b h none)
+  assigned_behind_runs (Did (Reads w p) es) b h none = assigned_behind_runs es b h none
+  assigned_behind_runs (Did (Assigns w p) es) b h none = further (is w) b (times is es) (λ other. assigned_behind_runs es (is w || b) h (none_or (is w) b other none))
+  assigned_behind_runs (Did (Reaches p) es) b h none = assigned_behind_runs es b h none
+  assigned_behind_runs (Made gs es) b h none = assigned_behind_runs es b h none
+
+  -- where it is assigned at the end of a text, each run that ends has assigned it
+  pub assigned_at_the_end : {T : Type 0} (same : T → T → Bool) → TellsApart same → (x : Act (Use V P) T) (es : Events (Use V P)) → Runs x es Normal → (flow same (assignment is) x false).end ≡ true → 1 ≤ times is es
+  assigned_at_the_end same S x es p n = assigned_behind_runs es false (at_end (sound same S (assignment is) (assignment_sound is) (λ e b. Unit {0}) (λ e a b q h. tt) p false false (λ h. h)).0 n) refl
 
 module _ {V P : Type 0} (is : V → Bool) (v : V) (at : P) (it : is v ≡ true) where
   was_assigned : (es : Events (Use V P)) (b : Bool) → FindsAssigned is b (append es (Did (Reads v at) Nothing)) → b ≡ false → 1 ≤ times is es

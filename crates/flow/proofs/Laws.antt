@@ -139,6 +139,11 @@ module _ {V P : Type 0} where
       pub assigned_no_later : NoneLater is es
       assigned_no_later = none_later true es first_found
 
+    -- where it isn't unassigned before the text, no run assigns it
+    pub never_assigned : {T : Type 0} (same : T → T → Bool) → TellsApart same → (x : Act (Use V P) T) (es : Events (Use V P)) (e : End T) → Runs x es e →
+        (flow same (unassignment is) x false).faults ≡ [] → times is es ≡ 0
+    never_assigned same S x es e p n = none _ (once false es ((sound same S (unassignment is) unassignment_sound IsFirst is_first p false false (λ h. h)).1 n))
+
   -- ---- where control comes
 
   stays_there : (told : P → Bool → Bool) (es : Events (Use V P)) (b : Bool) → behinds (control {V = V} told) b es ≡ b

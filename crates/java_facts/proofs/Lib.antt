@@ -1,2 +1,4 @@
 pub mod Forms
 pub mod Runs
+pub mod Pairs
+pub mod LawsToCite

@@ -66,13 +66,13 @@ module _ (k : Known) (is_set : ℕ → TField → Bool) (c : TClass) where
   value_of place (part.Value n x bodies ∷ more) = if n == place then Some (x, bodies) else value_of place more
   value_of place (part.Block at b xs ∷ more) = value_of place more
 
+  abbrev pub bodies_use : List TBody → List JavaUses
+  bodies_use [] = []
+  bodies_use (b ∷ more) = body_uses k b ∷ bodies_use more
+
   abbrev pub field_item : ℕ → TField → Option (TExpr × List TBody) → JavaItem
   field_item place f None = if is_set place f then Declared place else Unset place
-  field_item place f (Some v) = if f.modifiers.is_static && is_constant_variable f v.0 then Constant place ((seen k (nth (uses v.1)) v.0).used.is_zero) else given_item (sort_of f.kind.kind) place ((seen k (nth (uses v.1)) v.0).used)
-    where
-      uses : List TBody → List JavaUses
-      uses [] = []
-      uses (b ∷ more) = body_uses k b ∷ uses more
+  field_item place f (Some v) = if f.modifiers.is_static && is_constant_variable f v.0 then Constant place ((seen k (nth (bodies_use v.1)) v.0).used.is_zero) else given_item (sort_of f.kind.kind) place ((seen k (nth (bodies_use v.1)) v.0).used)
 
   abbrev pub equal : Bool → Bool → Bool
   equal true b = b

@@ -6,3 +6,4 @@ pub mod Sets
 pub mod Items
 pub mod Project
 pub mod Accessors
+pub mod Pairs

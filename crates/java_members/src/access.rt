@@ -46,8 +46,8 @@ fn is_above(
     Ok(has_class(rs.as_slice(), c))
 }
 
-/// Whether what the class of one number declares with such a modifier may be named in the class of another, which stands below
-/// it over at most so many steps or not at all (JLS 6.6.1, 6.6.2).
+/// Whether what class `c` declares with such a modifier may be named in class `a`, where what stands above `a` is looked for over
+/// at most so many steps (JLS 6.6.1, 6.6.2).
 pub fn is_accessible(
     alloc: Global,
     table: &[Class],

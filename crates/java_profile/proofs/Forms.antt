@@ -7,8 +7,8 @@ use Rattle.java_typed.specs.declared.exprs.TExpr.TheOpen.{TExpr-F}
 use Rattle.java_typed.specs.declared.exprs.TExpr.TheVariants as e
 use Rattle.java_facts.specs.Kinds.{result_sort}
 use Rattle.java_typed.specs.declared.statements.TLock.TheVariants as lock
-use Rattle.java_profile.specs.Faults.{Rule, Fault, fault, P5, P6, P7}
-use Rattle.java_profile.specs.Expressions.{Judged, judged, judged_by, told, is_valued}
+use Rattle.java_profile.specs.Faults.{Rule, Fault, fault, told, P5, P6, P7}
+use Rattle.java_profile.specs.Expressions.{Judged, judged, judged_by, is_valued}
 use Rattle.java_profile.specs.Statements.{is_text_or_box, lock_faults, value_faults}
 
 module _ (constants : MemberRef → Bool) where

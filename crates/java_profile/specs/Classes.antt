@@ -20,8 +20,7 @@ use Rattle.facts.specs.Classes.{in_java}
 use Rattle.java_facts.specs.Items.{is_constant_variable}
 use Rattle.java_facts.specs.Sets.{is_set}
 use Rattle.java_facts.specs.Project.{classes_of, class_facts, all_facts, most, same_place, is_interface_sort}
-use Rattle.java_profile.specs.Faults.{Fault, P11, P16, P17, P20}
-use Rattle.java_profile.specs.Expressions.{told}
+use Rattle.java_profile.specs.Faults.{Fault, P11, P16, P17, P20, told}
 use Rattle.java_profile.specs.Statements.{value_faults, values_faults, statements_faults, bodies_faults}
 
 -- ---- constant variables (JLS 4.12.4)
@@ -63,11 +62,15 @@ module _ (is_accessor : MemberRef → Bool) (inner : ℕ → ℕ → JavaAct) (u
   abbrev pub statics_lead : ℕ → TClass → Bool
   statics_lead number c = f.statics_lead same_class (same_place is_accessor inner units) (in_java same_class (same_place is_accessor inner units)) (all_facts is_accessor inner units) (most is_accessor inner units) (class_facts is_accessor inner units number c)
 
+  -- an unset static below a class that isn't calm
+  abbrev pub is_late_static : ℕ → TClass → ℕ → TField → Bool
+  is_late_static number c place x = x.modifiers.is_static && (is_unset number c place x && not (statics_lead number c))
+
   abbrev pub field_faults : ℕ → TClass → ℕ → TField → List Fault
   field_faults number c place x =
       told (is_interface_sort c.sort && not (constant_by x (value_at place c.initializers))) P11 x.at
       ++ (told (not x.modifiers.is_static && (is_unset number c place x && not (fields_lead number c))) P16 x.at
-      ++ told (x.modifiers.is_static && (is_unset number c place x && not (statics_lead number c))) P17 x.at)
+      ++ told (is_late_static number c place x) P17 x.at)
 
   abbrev pub fields_faults : ℕ → TClass → ℕ → List TField → List Fault
   fields_faults number c place [] = []

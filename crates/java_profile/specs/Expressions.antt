@@ -15,7 +15,7 @@ use Rattle.java_typed.specs.declared.exprs.TExpr.{TExpr, fold-TExpr, map-TExpr}
 use Rattle.java_typed.specs.declared.exprs.TExpr.TheOpen.{TExpr-F}
 use Rattle.java_typed.specs.Reading.{first_by, type_by}
 use Rattle.java_facts.specs.Kinds.{Sort, Boxed, Text, class_sort}
-use Rattle.java_profile.specs.Faults.{Rule, Fault, P3, P5, P7, P9}
+use Rattle.java_profile.specs.Faults.{Rule, Fault, P3, P5, P7, P9, told}
 
 -- Of an expression: its type, its first token, whether it is the literal null, also in parentheses, whether a box is opened where it
 -- stands, and its faults.
@@ -29,10 +29,6 @@ pub record Judged : Type 0 where
 abbrev pub all_faults : List Judged → List Fault
 all_faults [] = []
 all_faults (x ∷ more) = x.faults ++ all_faults more
-
-abbrev pub told : Bool → Rule → Position → List Fault
-told true rule at = record { rule = rule; at = at } ∷ []
-told false rule at = []
 
 -- ---- types
 

@@ -1,4 +1,5 @@
 pub mod Faults
+pub mod Above
 pub mod Expressions
 pub mod Statements
 pub mod Classes

@@ -7,14 +7,16 @@ use Rattle.java_typed.specs.declared.statements.TSimple.{TSimple}
 use Rattle.java_typed.specs.declared.statements.TSimple.TheVariants as simple
 use Rattle.java_typed.specs.declared.statements.TForStart.{TForStart}
 use Rattle.java_typed.specs.declared.statements.TForStart.TheVariants as starts
+use Rattle.java_typed.specs.declared.statements.TLabel.{TLabel}
+use Rattle.java_typed.specs.declared.statements.TLabel.TheVariants as label
 use Rattle.java_typed.specs.declared.statements.TLock.{TLock}
 use Rattle.java_typed.specs.declared.statements.TLock.TheVariants as lock
 use Rattle.java_typed.specs.declared.statements.TBody.{TBody, fold-TBody}
 use Rattle.java_typed.specs.declared.statements.TBody.TheOpen.{TBody-F, TStatement-F, TCaseGroup-F, TCatch-F}
 use Rattle.java_typed.specs.declared.statements.TStatement.{TStatement, fold-TStatement}
 use Rattle.java_facts.specs.Kinds.{Sort, Boxed, Text, result_sort}
-use Rattle.java_profile.specs.Faults.{Fault, P6, P20}
-use Rattle.java_profile.specs.Expressions.{judged, told}
+use Rattle.java_profile.specs.Faults.{Fault, P6, P20, told}
+use Rattle.java_profile.specs.Expressions.{judged}
 
 abbrev pub joined : List (List Fault) → List Fault
 joined [] = []
@@ -76,8 +78,14 @@ module _ (is_constant_field : MemberRef → Bool) where
   body_by (TBody-F.Statements xs) = joined xs
   body_by (TBody-F.Class number) = []
 
+  -- a label is a constant expression (JLS 14.11)
+  abbrev pub labels_faults : List TLabel → List Fault
+  labels_faults [] = []
+  labels_faults (label.Case at v x ∷ more) = value_faults x ++ labels_faults more
+  labels_faults (label.Default at ∷ more) = labels_faults more
+
   abbrev pub group_by : TCaseGroup-F (List Fault) (List Fault) Group (List Fault) → Group
-  group_by x = record { faults = joined x.statements; labels = length x.labels }
+  group_by x = record { faults = labels_faults x.labels ++ joined x.statements; labels = length x.labels }
 
   abbrev pub catch_by : TCatch-F (List Fault) (List Fault) Group (List Fault) → List Fault
   catch_by x = joined x.statements

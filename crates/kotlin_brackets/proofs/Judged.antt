@@ -11,7 +11,7 @@ use Rattle.kotlin_brackets.specs.declared.flaws.Flaw.{Flaw}
 use Rattle.kotlin_brackets.specs.declared.flaws.Flaw.TheVariants as w
 use Rattle.kotlin_brackets.specs.declared.flaws.Flawed.{Flawed}
 use Rattle.kotlin_brackets.specs.declared.scanning.Scan.{Scan}
-use Rattle.kotlin_brackets.specs.Brackets.{Tokens, bracket_at, Open, closed_by, open_before, Pairs, IsOpening, IsBracket, IsLonely, IsTooDeep, IsFlawed, IsFirstThere, IsFirst}
+use Rattle.kotlin_brackets.specs.Brackets.{Tokens, bracket_at, Open, closed_by, open_before, Pairs, IsOpening, IsBracket, IsLonely, IsTooDeep, IsFlawed, IsFirstThere, IsFirst, IsFirstFlaw}
 use Rattle.kotlin_brackets.specs.Steps.{lonely, flaw_of, told, first_before, IsScan, least_flaw}
 use Rattle.kotlin_brackets.proofs.Nesting.{Turn, turn, split_suc, Nested, nested, Has, has_below, has_opens, pairs_opens, pairs_closes, pairs_within, bracket_within, unpaired, open_or_paired}
 use Rattle.kotlin_brackets.proofs.Scans.{first_more}
@@ -254,3 +254,9 @@ pub scan_judged : (ts : Tokens) (scan : Scan) → IsScan ts (length ts) scan →
 scan_judged ts scan s =
     let P : Option Flawed → Type 0 = λ first. FirstIs ts (length ts) first in
     judged ts scan.stack.items scan.first (left_by ts scan.stack.items (sym s.stack)) (subst P (sym s.first) (first_is ts (length ts)))
+
+-- Where none is left open and none has a flaw as soon as it is read, none has one.
+pub all_paired : (ts : Tokens) → open_before ts (length ts) ≡ [] → first_before ts (length ts) ≡ None → IsFirstFlaw ts None
+all_paired ts left first =
+    let P : Option Flawed → Type 0 = λ z. FirstIs ts (length ts) z in
+    judged ts [] None (left_by ts [] left) (subst P first (first_is ts (length ts)))

@@ -23,7 +23,7 @@ use Rattle.kotlin_tree.specs.declared.files.KClassWord.TheVariants as class
 use Rattle.kotlin_tree.specs.UpToPlaces.{made, unplaced_dotted, unplaced_qualified, unplaced_package, unplaced_import}
 use Rattle.kotlin_layout.specs.declared.glyphs.Glyph.TheVariants as g
 use Rattle.kotlin_layout.specs.Roles.{Role, Roles, fixed, name, joined, block}
-use Rattle.kotlin_layout.specs.Shown.{qualified_roles, package_line, import_line, package_part, imports_part, comment_roles, comment_line, is_absent, is_headless, rank, modifier_glyphs, if_ranked, ranked, modifiers_roles, class_words, type_params_roles, supers_roles, member_roles}
+use Rattle.kotlin_layout.specs.Shown.{qualified_roles, package_line, import_line, package_part, imports_part, comment_roles, is_absent, is_headless, rank, modifier_glyphs, if_ranked, ranked, modifiers_roles, class_words, type_params_roles, supers_roles, member_roles}
 use Rattle.kotlin_grammar.specs.declared.letters.Kind.{Kind}
 use Rattle.kotlin_grammar.specs.declared.letters.Kind.TheVariants as k
 use Rattle.kotlin_grammar.specs.declared.letters.Term.TheVariants as t
@@ -37,7 +37,7 @@ use Rattle.kotlin_grammar.specs.Meaning.{taken}
 use Rattle.kotlin_grammar.specs.Parts.{empty, with_class, last_class, with_package, last_package, with_imports, last_imports}
 use Rattle.kotlin_grammar.specs.Reading.{SpellsHead, start, head_of}
 use Rattle.kotlin_grammar.specs.Files.{apart, begun as begun_tokens}
-use Rattle.kotlin_canonical_text.specs.Tokens.{Tokens, token, tokens}
+use Rattle.kotlin_canonical_text.specs.Tokens.{token, tokens}
 use Rattle.kotlin_canonical_text.specs.Members.{class_tree, class_readable, bare_class_roles}
 use Rattle.kotlin_canonical_text.specs.Heads.{first_tree, head_tree, first_readable, first_class_roles, head_roles}
 use Rattle.kotlin_canonical_text.proofs.Names.{L, Free, takes_name, named_plain}

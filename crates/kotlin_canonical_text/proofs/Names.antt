@@ -1,6 +1,6 @@
 -- Names: their tokens, and which terminals take them.
 use Rattle.std.proofs.Common.{◌≡◌, ℕ, Bool, true, false, List, [], ◌∷◌, Option, Some, None, refl, ap, sym, subst, ◌∙◌}
-use Rattle.std.specs.Prelude.{if◌then◌else◌, cond, find, bytes_eq, codes}
+use Rattle.std.specs.Prelude.{if◌then◌else◌, cond, find, bytes_eq, codes, ◌++◌}
 use Rattle.std.specs.Option.{option_map}
 use Rattle.grammar.proofs.LawsToCite.{some_same}
 use Rattle.std.proofs.lemmas.Slice.Eq.{bytes_eq-Decides}
@@ -19,7 +19,8 @@ use Rattle.kotlin_keywords.specs.declared.words.WordKind.TheVariants as row
 use Rattle.kotlin_keywords.specs.Words.{Entry, keywords, soft_words, beside, or_else, word_kind}
 use Rattle.kotlin_words.specs.Words.{hard_keywords}
 use Rattle.kotlin_layout.specs.declared.glyphs.Glyph.TheVariants as g
-use Rattle.kotlin_layout.specs.Roles.{Role, Roles}
+use Rattle.kotlin_layout.specs.Roles.{Role, Roles, fixed, name}
+use Rattle.kotlin_layout.specs.Shown.{target_name}
 use Rattle.kotlin_layout.specs.Names.{is_quoted}
 use Rattle.kotlin_grammar.specs.declared.letters.Kind.{Kind}
 use Rattle.kotlin_grammar.specs.declared.letters.Kind.TheVariants as k
@@ -27,7 +28,7 @@ use Rattle.kotlin_grammar.specs.declared.letters.Term.{Term}
 use Rattle.kotlin_grammar.specs.declared.letters.Term.TheVariants as t
 use Rattle.kotlin_grammar.specs.declared.built.Built.{Built}
 use Rattle.kotlin_grammar.specs.Table.{accepts, is_end, blank_after}
-use Rattle.kotlin_grammar.specs.Ahead.{Letters, letters, letter, kind_of, named, word_kind as kind_of_word, mark_kind, stands, is_less, is_at, is_curly, set_ahead, arguments_ahead, gap_before, blank_before, label_of}
+use Rattle.kotlin_grammar.specs.Ahead.{Letters, letters, letter, kind_of, named, word_kind as kind_of_word, mark_kind, stands, is_less, is_at, is_curly, is_round, set_ahead, arguments_ahead, gap_before, blank_before, label_of}
 use Rattle.kotlin_grammar.specs.Taking.{takes, relaxed}
 use Rattle.kotlin_grammar.specs.Parts.{with_name}
 use Rattle.kotlin_grammar.specs.Meaning.{taken, text_of}
@@ -462,9 +463,33 @@ pub takes_type_name : (n : List ℕ) (r : Roles) (b : Built) → stands is_less 
 unfolding letters tokens taken
 takes_type_name n r b less at calm = takes_as t.TypeName (name_token n) b (L gap.Plain r) (ident_type (name_token n) (L gap.Plain r) less at (name_ident n) calm) refl refl ∙ ap (λ z. Some (with_name (record { name = z; at = made }) b, L gap.Plain r)) (name_text n)
 
-pub takes_target : (n : List ℕ) (r : Roles) (b : Built) → stands is_less (L gap.Plain r) ≡ false → stands is_at (L gap.Plain r) ≡ false → Calm (name_token n) (L gap.Plain r) → takes taken t.TargetName b (L gap.Plain (Role.Name n ∷ r)) ≡ Some (with_name (name_made n) b, L gap.Plain r)
+takes_target : (n : List ℕ) (r : Roles) (b : Built) → stands is_less (L gap.Plain r) ≡ false → stands is_at (L gap.Plain r) ≡ false → Calm (name_token n) (L gap.Plain r) → takes taken t.TargetName b (L gap.Plain (Role.Name n ∷ r)) ≡ Some (with_name (name_made n) b, L gap.Plain r)
 unfolding letters tokens taken
 takes_target n r b less at calm = takes_as t.TargetName (name_token n) b (L gap.Plain r) (ident_target (name_token n) (L gap.Plain r) less at (name_ident n) calm) refl refl ∙ ap (λ z. Some (with_name (record { name = z; at = made }) b, L gap.Plain r)) (name_text n)
+
+synchronized_by : (round less at z : Bool) → less ≡ false → at ≡ false → accepts t.TargetName (if round then k.SynchronizedBlock else (if less then (if z then k.NameArguments else k.NameLess) else (if at then label_of k.Name else k.Name))) ≡ true
+unfolding accepts
+synchronized_by true less at z h i = refl
+synchronized_by false false false z h i = refl
+synchronized_by false true at z h i = absurd (cc h)
+synchronized_by false false true z h i = absurd (cc i)
+
+-- the word `synchronized` as a target
+takes_synchronized : (r : Roles) (b : Built) → stands is_less (L gap.Plain r) ≡ false → stands is_at (L gap.Plain r) ≡ false → takes taken t.TargetName b (L gap.Plain (Role.Fixed (g.Word o.SynchronizedBlock) ∷ r)) ≡ Some (with_name (name_made (codes "synchronized")) b, L gap.Plain r)
+unfolding letters tokens taken kind_of_word named
+takes_synchronized r b less at = takes_as t.TargetName (q.Word o.SynchronizedBlock) b (L gap.Plain r) (synchronized_by (stands is_round (L gap.Plain r)) (stands is_less (L gap.Plain r)) (stands is_at (L gap.Plain r)) (arguments_ahead (L gap.Plain r)) less at) refl refl
+
+target_by : (c : Bool) (n : List ℕ) (r : Roles) (b : Built) → bytes_eq n (codes "synchronized") ≡ c → stands is_less (L gap.Plain r) ≡ false → stands is_at (L gap.Plain r) ≡ false → Calm (name_token n) (L gap.Plain r)
+    → takes taken t.TargetName b (L gap.Plain ((if c then fixed (g.Word o.SynchronizedBlock ∷ []) else name n) ++ r)) ≡ Some (with_name (name_made n) b, L gap.Plain r)
+target_by true n r b is less at calm =
+    let same : n ≡ codes "synchronized" = same_bytes n (codes "synchronized") is in
+    subst (λ z. takes taken t.TargetName b (L gap.Plain (Role.Fixed (g.Word o.SynchronizedBlock) ∷ r)) ≡ Some (with_name (name_made z) b, L gap.Plain r)) (sym same) (takes_synchronized r b less at)
+target_by false n r b is less at calm = takes_target n r b less at calm
+
+-- the name of a target as it is printed
+pub takes_target_name : (n : List ℕ) (r : Roles) (b : Built) → stands is_less (L gap.Plain r) ≡ false → stands is_at (L gap.Plain r) ≡ false → Calm (name_token n) (L gap.Plain r)
+    → takes taken t.TargetName b (L gap.Plain (target_name n ++ r)) ≡ Some (with_name (name_made n) b, L gap.Plain r)
+takes_target_name n r b less at calm = target_by (bytes_eq n (codes "synchronized")) n r b refl less at calm
 
 pub takes_any_name : (n : List ℕ) (r : Roles) (b : Built) → stands is_at (L gap.Plain r) ≡ false → Calm (name_token n) (L gap.Plain r) → takes taken t.AnyName b (L gap.Plain (Role.Name n ∷ r)) ≡ Some (with_name (name_made n) b, L gap.Plain r)
 unfolding letters tokens taken

@@ -52,7 +52,7 @@ use Rattle.kotlin_layout.specs.Shown.{comment_roles, declared_roles, variability
 use Rattle.kotlin_grammar.specs.Meaning.{is_target, variability_of}
 use Rattle.kotlin_grammar.specs.Ahead.{curly_kind}
 use Rattle.kotlin_canonical_text.specs.Canonical.{Piece, Operand, fits, deepest, roles_of, tree_of, depth_of, all_readable, block_depth, block_readable, type_piece, declared_tree, statement_piece}
-use Rattle.kotlin_canonical_text.proofs.Names.{L, Free, takes_name, takes_label, takes_target, named_plain}
+use Rattle.kotlin_canonical_text.proofs.Names.{L, Free, takes_name, takes_label, takes_target_name, named_plain}
 use Rattle.kotlin_canonical_text.proofs.Firsts.{First, Begins, Unnamed, starts, begins_name, begins_keyword, begins_word, begins_more, relaxed_plain, unnamed_name, first_arrow, first_less, first_at, first_curly}
 use Rattle.kotlin_canonical_text.proofs.Types.{both, type_good, type_shown, Tight}
 use Rattle.kotlin_canonical_text.proofs.Levels.{quiet, whole_of, After, after_letter, tight_after, Level, Front}
@@ -610,7 +610,7 @@ target_read : (x : Option KTarget) (s : Symbols) (b : Built) (r : Roles) (new : 
     → Der s (target (option_map unplaced_target x) b) (L gap.Plain r) new → Der (y.Form f.Target ∷ s) b (L gap.Plain (target_roles x ++ r)) new
 unfolding written takes letters tokens accepts taken mark_kind
 target_read None s b r new tight calm h = way w.TargetNone (act (acts_NoTarget b) h)
-target_read (Some x) s b r new tight calm h = way w.TargetSome (take refl (take (takes_target x.name.name r (place b) tight.0 tight.1 (λ is. calm)) (act (acts_Target x.name.name b) h)))
+target_read (Some x) s b r new tight calm h = way w.TargetSome (take refl (take (takes_target_name x.name.name r (place b) tight.0 tight.1 (λ is. calm)) (act (acts_Target x.name.name b) h)))
 
 pub break_stands : (at : Position) (x : Option KTarget) → Stands (statement_piece (KStmt-F.Break at x))
 unfolding written takes letters tokens accepts taken keyword_kind names_follow

@@ -13,7 +13,7 @@ use crate::tokens::{
     prefix_mark, spaced, word,
 };
 use crate::types::{kind, qualified, type_arguments};
-use j2k_base::NoMemory;
+use j2k_base::{Name, NoMemory};
 use kotlin_layout::{Glyph, Place, needs_parens};
 use kotlin_token_printer::Printer;
 use kotlin_tree::{
@@ -54,6 +54,18 @@ fn label(p: &mut Printer, x: &Option<KLabel>) -> Result<(), NoMemory>
     }
 }
 
+/// The name behind `@`.
+#[tactic(auto, using(kotlin_layout::proofs::LawsToCite::walks))]
+fn target_name(p: &mut Printer, name: &Name) -> Result<(), NoMemory>
+    ensures { OnOk result (p.new ≡ laid (s.target_name name.now) p.old) }
+{
+    if name.as_bytes() == b"synchronized".as_slice() {
+        word(p, Word::SynchronizedBlock)
+    } else {
+        p.name(name)
+    }
+}
+
 #[tactic(auto, using(kotlin_layout::proofs::LawsToCite::walks))]
 fn target(p: &mut Printer, x: &Option<KTarget>) -> Result<(), NoMemory>
     ensures { OnOk result (p.new ≡ laid (s.target_roles x.now) p.old) }
@@ -62,7 +74,7 @@ fn target(p: &mut Printer, x: &Option<KTarget>) -> Result<(), NoMemory>
         None => Ok(()),
         Some(x) => {
             mark(p, Mark::At)?;
-            p.name(&x.name.name)
+            target_name(p, &x.name.name)
         }
     }
 }

@@ -1,5 +1,5 @@
 -- The roles of trees, with parentheses round what doesn't stand where it is.
-use Rattle.std.specs.Prelude.{◌≡◌, ℕ, zero, suc, ◌+◌, nat_eq, Bool, true, false, if◌then◌else◌, List, [], ◌∷◌, ◌++◌, map, Option, Some, None}
+use Rattle.std.specs.Prelude.{◌≡◌, ℕ, zero, suc, ◌+◌, nat_eq, Bool, true, false, if◌then◌else◌, List, [], ◌∷◌, ◌++◌, map, Option, Some, None, codes, bytes_eq}
 use Rattle.kotlin_tree.specs.declared.tokens.Mark.{Mark}
 use Rattle.kotlin_tree.specs.declared.tokens.Mark.TheVariants as m
 use Rattle.kotlin_tree.specs.declared.tokens.Keyword.TheVariants as k
@@ -191,9 +191,13 @@ abbrev pub label_roles : Option KLabel → Roles
 label_roles None = []
 label_roles (Some x) = name x.name.name ++ fixed (g.Mark m.At ∷ g.Blank ∷ [])
 
+-- a name behind `@`: the function of a synchronized block stands bare there, where no block can begin (own rule)
+abbrev pub target_name : List ℕ → Roles
+target_name n = if bytes_eq n (codes "synchronized") then fixed (g.Word w.SynchronizedBlock ∷ []) else name n
+
 abbrev pub target_roles : Option KTarget → Roles
 target_roles None = []
-target_roles (Some x) = fixed (g.Mark m.At ∷ []) ++ name x.name.name
+target_roles (Some x) = fixed (g.Mark m.At ∷ []) ++ target_name x.name.name
 
 -- ---- expressions and statements, by cases
 

@@ -17,10 +17,11 @@ use Rattle.kotlin_grammar.specs.Files.{apart, begun, pieces, Content, SpellsClas
 use Rattle.kotlin_canonical_files.proofs.LawsToCite.{token_sides, Spot, Ends, piece_ends, class_ends, class_is_some}
 use Rattle.kotlin_canonical_text.specs.Tokens.{Tokens, tokens}
 use Rattle.kotlin_canonical_text.specs.Members.{class_tree, class_readable, bare_class_roles}
+use Rattle.kotlin_canonical_text.specs.Gaps.{gap_behind}
 use Rattle.kotlin_canonical_text.specs.Heads.{first_readable, first_class_roles, above_roles, head_roles}
 use Rattle.kotlin_canonical_text.proofs.LawsToCite.{class_spelled, class_apart, head_spelled}
 use Rattle.kotlin_printed_text.specs.Printed.{content_tree, later_trees, classes_readable, file_readable}
-use Rattle.kotlin_printed_text.proofs.Splits.{gap_behind, tokens_split, gap_split, quiet, quiet_both, quiet_passed}
+use Rattle.kotlin_printed_text.proofs.Splits.{tokens_split, gap_split, quiet, quiet_both, quiet_passed}
 
 both : (b c : Bool) → (b && c) ≡ true → (b ≡ true) × (c ≡ true)
 both true c is = (refl, is)

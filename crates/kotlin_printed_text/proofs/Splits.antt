@@ -14,22 +14,8 @@ use Rattle.kotlin_layout.specs.declared.glyphs.Glyph.TheVariants as g
 use Rattle.kotlin_layout.specs.Roles.{Role, Roles}
 use Rattle.kotlin_grammar.specs.Files.{pieces, open_behind, ends_piece}
 use Rattle.kotlin_canonical_text.specs.Tokens.{Tokens, token, tokens, name_token, lined}
+use Rattle.kotlin_canonical_text.specs.Gaps.{gap_behind}
 use Rattle.kotlin_canonical_text.proofs.LawsToCite.{is_ident, name_ident}
-
--- what stands before the next token behind a part
-abbrev pub gap_behind : Gap → Roles → Gap
-gap_behind h [] = h
-gap_behind h (Role.Fixed (g.Mark x) ∷ r) = gap_behind gap.Plain r
-gap_behind h (Role.Fixed (g.Keyword x) ∷ r) = gap_behind gap.Plain r
-gap_behind h (Role.Fixed (g.Word x) ∷ r) = gap_behind gap.Plain r
-gap_behind h (Role.Fixed g.Semicolon ∷ r) = gap_behind gap.Semicolon r
-gap_behind h (Role.Fixed g.Line ∷ r) = gap_behind (lined h) r
-gap_behind h (Role.Fixed g.Blank ∷ r) = gap_behind h r
-gap_behind h (Role.Fixed g.Deeper ∷ r) = gap_behind h r
-gap_behind h (Role.Fixed g.Shallower ∷ r) = gap_behind h r
-gap_behind h (Role.Name n ∷ r) = gap_behind gap.Plain r
-gap_behind h (Role.Literal x ∷ r) = gap_behind gap.Plain r
-gap_behind h (Role.Comment x ∷ r) = gap_behind h r
 
 pub tokens_split : (h : Gap) (xs ys : Roles) → tokens h (xs ++ ys) ≡ (tokens h xs ++ tokens (gap_behind h xs) ys)
 unfolding tokens

@@ -1,0 +1,4 @@
+pub mod Assignments
+pub mod Locals
+pub mod Guards
+pub mod Classes

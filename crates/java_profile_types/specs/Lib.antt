@@ -1,0 +1,5 @@
+pub mod Written
+pub mod Calls
+pub mod Arrays
+pub mod Places
+pub mod Classes

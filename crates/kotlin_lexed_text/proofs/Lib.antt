@@ -1,0 +1,6 @@
+mod Bytes
+mod Comments
+mod Cutting
+mod Literals
+mod Marks
+mod Words

@@ -1,0 +1,4 @@
+mod Joined
+mod Paired
+mod SameTree
+mod Worked

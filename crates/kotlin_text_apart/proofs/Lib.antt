@@ -1,0 +1,7 @@
+mod Expressions
+mod Files
+mod Induction
+pub mod LawsToCite
+mod Members
+mod Parts
+mod Statements

@@ -1,0 +1,1 @@
+pub use Rattle.kotlin_types.proofs.Forms.{out_type}

@@ -1,0 +1,6 @@
+mod Forms
+mod Sameness
+mod Nulls
+mod Climbing
+mod Order
+pub mod LawsToCite

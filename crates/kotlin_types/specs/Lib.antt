@@ -1,0 +1,4 @@
+pub mod Types
+pub mod Supertypes
+pub mod Below
+pub mod LibraryClasses

@@ -1,0 +1,1 @@
+pub use Rattle.kotlin_typing.proofs.Equations.{form_at, line_at}

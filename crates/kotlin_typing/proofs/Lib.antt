@@ -1,0 +1,4 @@
+mod Equations
+mod Whole
+mod Premises
+pub mod LawsToCite
