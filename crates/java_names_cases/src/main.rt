@@ -13,9 +13,13 @@ use std::alloc::Global;
 use std::fmt::Write;
 use std::io;
 
-fn let_go_bound(_bound: Bound) {}
+fn let_go_bound(bound: Bound) {
+    drop(bound);
+}
 
-fn let_go_units(_units: Items<JUnit>) {}
+fn let_go_units(units: Items<JUnit>) {
+    drop(units);
+}
 
 fn text_of(alloc: Global, letters: &[u8]) -> Result<Text, NoMemory> {
     let mut text = Text::new(alloc);
