@@ -8,6 +8,10 @@ use Rattle.java_typed.specs.declared.units.TMethod.{TMethod}
 use Rattle.java_typed.specs.declared.units.TClass.{TClass}
 use Rattle.java_facts.specs.Accessors.{Pair, getter_name, setter_name, is_hidden_field, is_only_field, is_only_method, is_plain, is_getter, is_setter, named}
 
+-- a member of a class of the project, by its place there
+abbrev pub member_at : ℕ → ℕ → MemberRef
+member_at number place = record { class = class.Project number; place = place }
+
 module _ (same_type : TType → TType → Bool) (overrides : MemberRef → Bool) (classes : List TClass) (number : ℕ) (c : TClass) (m : MemberRef) (f : TField) where
   -- a method of the class, beside its place, is the accessor that a shape tells
   pub record IsAccessor (shape : MemberRef → TField → TMethod → Bool) (x : ℕ × TMethod) : Type 0 where

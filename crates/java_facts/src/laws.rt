@@ -1,6 +1,6 @@
 //! What the facts promise of runs, of the layout, and of forms.
 
-ghost use Rattle.std.specs.Prelude.{◌≡◌, ℕ, Bool, List, [], true, false};
+ghost use Rattle.std.specs.Prelude.{◌≡◌, ℕ, Bool, List, [], true, false, Some};
 ghost use Rattle.java_tree.specs.declared.tokens.Position.{Position};
 ghost use Rattle.java_typed.specs.declared.types.ClassRef.{ClassRef};
 ghost use Rattle.java_typed.specs.declared.types.TType.{TType};
@@ -8,6 +8,8 @@ ghost use Rattle.java_typed.specs.declared.types.TResult.{TResult};
 ghost use Rattle.java_typed.specs.declared.members.MemberRef.{MemberRef};
 ghost use Rattle.java_typed.specs.declared.exprs.TExpr.{TExpr};
 ghost use Rattle.java_typed.specs.declared.exprs.TExpr.TheVariants as e;
+ghost use Rattle.java_typed.specs.declared.units.TClass.{TClass};
+ghost use Rattle.java_typed.specs.declared.units.TField.{TField};
 ghost use Rattle.java_typed.specs.declared.units.TUnit.{TUnit};
 ghost use Rattle.java_flow.specs.Variables.{JavaAct, same_class};
 ghost use Rattle.facts.specs.Uses.{Among, Further, This};
@@ -16,6 +18,8 @@ ghost use Rattle.facts.specs.Runs.{Event, Construction, Initialization, Hidden, 
 ghost use Rattle.java_facts.specs.Kinds.{Boxed, is_object, result_sort};
 ghost use Rattle.java_facts.specs.Expressions.{JavaUsed, JavaUses, Known, seen, uses_of};
 ghost use Rattle.java_facts.specs.Items.{given_item};
+ghost use Rattle.java_facts.specs.Accessors.{Pair, pair};
+ghost use Rattle.java_facts.specs.Pairs.{IsPair, member_at};
 ghost use Rattle.java_facts.specs.Project.{all_facts, is_closed, is_closed_laid, is_calm, is_idle, initializers_do, NoneUnset, touches, touches_laid};
 
 /// Before an object of a closed class is made, no text but its constructors and initializers uses it.
@@ -50,6 +54,12 @@ pub fn exact_calls_show_this()
 pub fn texts_of_objects_are_further()
     ensures left { (k : Known) (bodies : ℕ → JavaUses) (x : TExpr) (at : Position) (y : TExpr) → is_object (result_sort (seen k bodies x).kind) ≡ true → Among Further (uses_of k bodies (e.Concat x at y)) }
     ensures right { (k : Known) (bodies : ℕ → JavaUses) (x : TExpr) (at : Position) (y : TExpr) → is_object (result_sort (seen k bodies y).kind) ≡ true → Among Further (uses_of k bodies (e.Concat x at y)) }
+{}
+
+/// A field has accessors exactly where the conditions on the field, on its getter and on its setter hold.
+pub fn accessors_are_pairs()
+    ensures only { (same_type : TType → TType → Bool) (overrides : MemberRef → Bool) (classes : List TClass) (number : ℕ) (c : TClass) (place : ℕ) (f : TField) (is_constant : Bool) (p : Pair) → pair same_type overrides classes number c place f is_constant ≡ Some p → IsPair same_type overrides classes number c (member_at number place) f is_constant p }
+    ensures each { (same_type : TType → TType → Bool) (overrides : MemberRef → Bool) (classes : List TClass) (number : ℕ) (c : TClass) (place : ℕ) (f : TField) (is_constant : Bool) (p : Pair) → IsPair same_type overrides classes number c (member_at number place) f is_constant p → pair same_type overrides classes number c place f is_constant ≡ Some p }
 {}
 
 /// The constant 0 of a box is no default: what a box has when nothing was stored is null.

@@ -1,2 +1,2 @@
 -- What other crates cite of this one's proofs.
-pub use Rattle.java_profile.proofs.Unset.{AllKept, NoneLate, none_unset}
+pub use Rattle.java_profile.proofs.Unset.{none_unset}

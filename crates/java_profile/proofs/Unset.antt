@@ -23,6 +23,7 @@ use Rattle.java_facts.specs.Statements.{nth}
 use Rattle.java_facts.specs.Items.{JavaItem, given_item, box_item, items, value_of, field_item, field_items, block_items, bodies_use, equal, is_constant_variable}
 use Rattle.java_facts.specs.Sets as s
 use Rattle.java_facts.specs.Project.{classes_of, class_facts, numbered, all_facts, known, most, same_place, NoneUnset}
+use Rattle.java_profile.specs.Unset.{NoneLate, AllKept}
 use Rattle.java_profile.specs.Classes.{value_at, is_late_static, statics_lead}
 
 -- ---- values of fields
@@ -68,17 +69,8 @@ module _ (is_accessor : MemberRef → Bool) (inner : ℕ → ℕ → JavaAct) (u
   abbrev late : ℕ → TClass → ℕ → TField → Bool
   late = is_late_static is_accessor inner units
 
-  -- no static of a class is late
-  abbrev pub NoneLate : ℕ → TClass → ℕ → List TField → Type 0
-  NoneLate number c place [] = Unit {0}
-  NoneLate number c place (x ∷ more) = (late number c place x ≡ false) × NoneLate number c (suc place) more
-
-  abbrev pub AllKept : ℕ → List TClass → Type 0
-  AllKept number [] = Unit {0}
-  AllKept number (c ∷ more) = NoneLate number c 0 c.fields × AllKept (suc number) more
-
   module _ (number : ℕ) (c : TClass) where
-    late_at : (n i : ℕ) (fs : List TField) (x : TField) → NoneLate number c n fs → slice_get fs i ≡ Some x → late number c (n + i) x ≡ false
+    late_at : (n i : ℕ) (fs : List TField) (x : TField) → NoneLate is_accessor inner units number c n fs → slice_get fs i ≡ Some x → late number c (n + i) x ≡ false
     late_at n i [] x h e = cc
     late_at n zero (y ∷ more) x h e = subst (λ (z : Option TField). is_so z) e (subst (λ (j : ℕ). late number c j y ≡ false) (omega arith) h.0)
       where
@@ -120,7 +112,7 @@ module _ (is_accessor : MemberRef → Bool) (inner : ℕ → ℕ → JavaAct) (u
     block_step (Some (part.Value n x bodies)) more e = e
     block_step (Some (part.Block at b xs)) more e = if_static b _ more (λ q. refl) e
 
-    module _ (kept : NoneLate number c 0 c.fields) (leads_not : statics_lead is_accessor inner units number c ≡ false) where
+    module _ (kept : NoneLate is_accessor inner units number c 0 c.fields) (leads_not : statics_lead is_accessor inner units number c ≡ false) where
       is_set_at : (place : ℕ) (x : TField) → slice_get c.fields place ≡ Some x → x.modifiers.is_static ≡ true → value_of k is_set c place c.initializers ≡ None → is_set place x ≡ true
       is_set_at place x e q r =
           set_so x.modifiers.is_static (value_at place c.initializers) (is_set place x) (statics_lead is_accessor inner units number c) q (value_none k is_set c place c.initializers r) leads_not
@@ -142,19 +134,19 @@ module _ (is_accessor : MemberRef → Bool) (inner : ℕ → ℕ → JavaAct) (u
   abbrev leads : Class ClassRef ℕ → Bool
   leads x = f.statics_lead same_class (same_place is_accessor inner units) (in_java same_class (same_place is_accessor inner units)) (all_facts is_accessor inner units) (most is_accessor inner units) x
 
-  kept_by : (number : ℕ) (c : TClass) (x : Class ClassRef ℕ) → NoneLate number c 0 c.fields → facts_of number c ≡ x → leads x ≡ false → unset x.statics ≡ []
+  kept_by : (number : ℕ) (c : TClass) (x : Class ClassRef ℕ) → NoneLate is_accessor inner units number c 0 c.fields → facts_of number c ≡ x → leads x ≡ false → unset x.statics ≡ []
   kept_by number c x kept e h = subst (λ (z : Class ClassRef ℕ). leads z ≡ false → unset z.statics ≡ []) e (λ q. items_kept number c kept q c.order) h
 
-  chosen : (b : Bool) (number : ℕ) (c : TClass) (x : Class ClassRef ℕ) (o : Option (Class ClassRef ℕ)) → NoneLate number c 0 c.fields → (o ≡ Some x → leads x ≡ false → unset x.statics ≡ []) → (if b then Some (facts_of number c) else o) ≡ Some x → leads x ≡ false → unset x.statics ≡ []
+  chosen : (b : Bool) (number : ℕ) (c : TClass) (x : Class ClassRef ℕ) (o : Option (Class ClassRef ℕ)) → NoneLate is_accessor inner units number c 0 c.fields → (o ≡ Some x → leads x ≡ false → unset x.statics ≡ []) → (if b then Some (facts_of number c) else o) ≡ Some x → leads x ≡ false → unset x.statics ≡ []
   chosen true number c x o kept later e h = kept_by number c x kept (some_same (facts_of number c) x e) h
     where
       some_same : (y z : Class ClassRef ℕ) → Some y ≡ Some z → y ≡ z
       some_same y z e = cc
   chosen false number c x o kept later e h = later e h
 
-  found_kept : (number : ℕ) (cs : List TClass) (d : ClassRef) (x : Class ClassRef ℕ) → AllKept number cs → f.find same_class (numbered is_accessor inner units number cs) d ≡ Some x → leads x ≡ false → unset x.statics ≡ []
+  found_kept : (number : ℕ) (cs : List TClass) (d : ClassRef) (x : Class ClassRef ℕ) → AllKept is_accessor inner units number cs → f.find same_class (numbered is_accessor inner units number cs) d ≡ Some x → leads x ≡ false → unset x.statics ≡ []
   found_kept number [] d x kept e h = cc
   found_kept number (c ∷ more) d x kept e h = chosen (same_class (class.Project number) d) number c x (f.find same_class (numbered is_accessor inner units (suc number) more) d) kept.0 (found_kept (suc number) more d x kept.1) e h
 
-  pub none_unset : AllKept 0 (classes_of units) → NoneUnset is_accessor inner units
+  pub none_unset : AllKept is_accessor inner units 0 (classes_of units) → NoneUnset is_accessor inner units
   none_unset kept d x e h = found_kept 0 (classes_of units) d x kept e h

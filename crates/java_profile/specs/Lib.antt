@@ -3,3 +3,4 @@ pub mod Above
 pub mod Expressions
 pub mod Statements
 pub mod Classes
+pub mod Unset

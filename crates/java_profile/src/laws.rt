@@ -1,12 +1,16 @@
 //! What the rules refuse.
 
-ghost use Rattle.std.specs.Prelude.{◌≡◌, Bool, true, false, ◌∷◌, ◌++◌};
+ghost use Rattle.std.specs.Prelude.{◌≡◌, ℕ, Bool, true, false, List, ◌∷◌, ◌++◌};
 ghost use Rattle.java_tree.specs.declared.tokens.Position.{Position};
 ghost use Rattle.java_typed.specs.declared.members.MemberRef.{MemberRef};
 ghost use Rattle.java_typed.specs.declared.exprs.TExpr.{TExpr};
 ghost use Rattle.java_typed.specs.declared.exprs.TExpr.TheVariants as e;
 ghost use Rattle.java_typed.specs.declared.statements.TLock.TheVariants as lock;
+ghost use Rattle.java_typed.specs.declared.units.TUnit.{TUnit};
+ghost use Rattle.java_flow.specs.Variables.{JavaAct};
 ghost use Rattle.java_facts.specs.Kinds.{result_sort};
+ghost use Rattle.java_facts.specs.Project.{NoneUnset, classes_of};
+ghost use Rattle.java_profile.specs.Unset.{AllKept};
 ghost use Rattle.java_profile.specs.Faults.{fault, P5, P6, P7};
 ghost use Rattle.java_profile.specs.Expressions.{is_valued, judged};
 ghost use Rattle.java_profile.specs.Statements.{is_text_or_box, lock_faults, value_faults};
@@ -25,4 +29,9 @@ pub fn statics_are_reached_by_classes()
 /// A lock on a String or a box is refused.
 pub fn values_are_no_locks()
     ensures refused { (constants : MemberRef → Bool) (x : TExpr) → is_text_or_box (result_sort (judged constants x).kind) ≡ true → lock_faults constants (lock.Value x) ≡ fault P6 (judged constants x).first ∷ value_faults constants x }
+{}
+
+/// Where no static of a project is late, none is unset below a class that isn't calm: the layout keeps its facts.
+pub fn no_static_is_unset()
+    ensures { (is_accessor : MemberRef → Bool) (inner : ℕ → ℕ → JavaAct) (units : List TUnit) → AllKept is_accessor inner units 0 (classes_of units) → NoneUnset is_accessor inner units }
 {}

@@ -3,4 +3,7 @@
 
 mod laws;
 
-pub use laws::{statics_are_reached_by_classes, values_are_no_locks, values_have_no_identity};
+pub use laws::{
+    no_static_is_unset, statics_are_reached_by_classes, values_are_no_locks,
+    values_have_no_identity,
+};
