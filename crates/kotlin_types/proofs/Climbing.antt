@@ -6,10 +6,10 @@ use Rattle.kotlin_types.specs.declared.kinds.KHead.{KHead}
 use Rattle.kotlin_types.specs.declared.kinds.KHead.TheVariants as head
 use Rattle.kotlin_types.specs.declared.kinds.KKind.{KKind}
 use Rattle.kotlin_types.specs.declared.classes.KClasses.{KClasses}
-use Rattle.kotlin_types.specs.Types.{arguments_of, head_of, is_within, nullability_of, same_but_null, same_head}
+use Rattle.kotlin_types.specs.Types.{head_of, nullability_of, same_but_null, same_head}
 use Rattle.kotlin_types.specs.Supertypes.{above, climbed, direct, is_nothing, is_subtype, joined, meets, takes_null}
 use Rattle.kotlin_types.specs.Below.{Below, HasHeights, IsIn, Widens, nothing, up, wider}
-use Rattle.kotlin_types.proofs.Sameness.{and_holds, and_tells, but_null_same, but_null_tells, head_same, head_tells}
+use Rattle.kotlin_types.proofs.Sameness.{and_holds, and_tells, but_null_same, but_null_tells, head_tells}
 
 -- ---- members of lists
 
@@ -47,9 +47,10 @@ in_right x (z ∷ zs) ys i = inr (in_right x zs ys i)
 
 joined_tells : (f : KKind → List KKind) (xs : List KKind) (y : KKind) → IsIn y (joined (map f xs)) → (x : KKind) × IsIn x xs × IsIn y (f x)
 joined_tells f [] y i = absurd i
-joined_tells f (x ∷ xs) y i = elim (in_append y (f x) (joined (map f xs)) i)
-    [ inl a ↦ (x, inl refl, a)
-    | inr b ↦ (let rest = joined_tells f xs y b in (rest.0, inr rest.1, rest.2)) ]
+joined_tells f (x ∷ xs) y i = elim (in_append y (f x) (joined (map f xs)) i) [
+  | inl a ↦ (x, inl refl, a)
+  | inr b ↦ (let rest = joined_tells f xs y b in (rest.0, inr rest.1, rest.2))
+]
 
 joined_holds : (f : KKind → List KKind) (xs : List KKind) (x y : KKind) → IsIn x xs → IsIn y (f x) → IsIn y (joined (map f xs))
 joined_holds f [] x y i j = absurd i
@@ -63,11 +64,12 @@ or_tells true b h = inl refl
 or_tells false b h = inr h
 
 pub meets_below : (classes : KClasses) (s b : KKind) → meets b s ≡ true → Below classes s b
-meets_below classes s b h = elim (or_tells _ _ h)
-    [ inl n ↦ (let both = and_tells (is_nothing s) _ n in nothing s b (head_tells _ _ both.0) both.1)
-    | inr w ↦ (let both = and_tells (same_but_null s b) _ w in
-        let parts = but_null_tells s b both.0 in
-        wider s b (record { heads = parts.0; arguments = parts.1; nulls = both.1 })) ]
+meets_below classes s b h = elim (or_tells _ _ h) [
+  | inl n ↦ (let both = and_tells (is_nothing s) _ n in nothing s b (head_tells _ _ both.0) both.1)
+  | inr w ↦ (let both = and_tells (same_but_null s b) _ w in
+      let parts = but_null_tells s b both.0 in
+      wider s b (record { heads = parts.0; arguments = parts.1; nulls = both.1 }))
+]
 
 or_left : (a b : Bool) → a ≡ true → (a || b) ≡ true
 or_left true b h = refl

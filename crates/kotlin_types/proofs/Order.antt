@@ -1,5 +1,5 @@
 -- Subtyping is an order, and null stays where it may be.
-use Rattle.std.proofs.Common.{◌≡◌, ◌≢◌, ◌<◌, ◌≤◌, ◌⊎◌, inl, inr, ℕ, Bool, true, false, List, [], ◌∷◌, map, refl, sym, ap, subst, ◌∙◌, arith}
+use Rattle.std.proofs.Common.{◌≡◌, ◌≢◌, ◌<◌, ◌⊎◌, inl, inr, ℕ, true, List, [], ◌∷◌, map, refl, sym, ap, subst, ◌∙◌, arith}
 use Rattle.kotlin_types.specs.declared.kinds.KHead.{KHead}
 use Rattle.kotlin_types.specs.declared.kinds.KHead.TheVariants as head
 use Rattle.kotlin_types.specs.declared.kinds.Nullability.{Nullability}
@@ -47,11 +47,12 @@ lifted_in n m (x ∷ xs) s h (inr i) =
 -- a supertype of what is above but for the `?` is above too
 direct_in : (classes : KClasses) (a b s : KKind) → Widens a b → IsIn s (direct classes b) → (t : KKind) × IsIn t (direct classes a) × Widens t s
 direct_in classes a b s w i =
-    let found = lifted_in (nullability_of a) (nullability_of b) (supers_of classes (head_of b) (arguments_of b)) s w.nulls i in
-    (found.0,
-     subst (λ h. IsIn found.0 (map (lift (nullability_of a)) (supers_of classes h (arguments_of a)))) (sym w.heads)
-       (subst (λ args. IsIn found.0 (map (lift (nullability_of a)) (supers_of classes (head_of b) args))) (sym w.arguments) found.1),
-     found.2)
+    let found = lifted_in (nullability_of a) (nullability_of b) (supers_of classes (head_of b) (arguments_of b)) s w.nulls i in (
+      found.0,
+      subst (λ h. IsIn found.0 (map (lift (nullability_of a)) (supers_of classes h (arguments_of a)))) (sym w.heads)
+          (subst (λ args. IsIn found.0 (map (lift (nullability_of a)) (supers_of classes (head_of b) args))) (sym w.arguments) found.1),
+      found.2,
+    )
 
 also_lifted : (xs : List KKind) (s : KKind) (n : Nullability) → n ≡ null.Also → IsIn s (map (lift n) xs) → nullability_of s ≡ null.Also
 also_lifted [] s n e i = absurd i
@@ -92,32 +93,38 @@ module _ (classes : KClasses) (height : KHead → ℕ) (high : HasHeights classe
   falls values _ _ some (wider a b w) = inl w
   falls values _ _ some (up a s b i d) =
       let step : height (head_of s) < height (head_of a) = high.0 a s i in
-      elim (falls values s b (values a s i) d)
-      [ inl w ↦ inr (subst (λ h. height h < height (head_of a)) w.heads step)
-      | inr l ↦ inr (less _ _ _ l step) ]
+      elim (falls values s b (values a s i) d) [
+        | inl w ↦ inr (subst (λ h. height h < height (head_of a)) w.heads step)
+        | inr l ↦ inr (less _ _ _ l step)
+      ]
     where
       less : (x y z : ℕ) → x < y → y < z → x < z
       less x y z l m = omega arith
 
   pub below_antisym : HasValues classes → (a b : KKind) → head_of a ≢ head.Nothing → head_of b ≢ head.Nothing → Below classes a b → Below classes b a → a ≡ b
-  below_antisym values a b na nb d e = elim (falls values a b na d)
-      [ inl w ↦ elim (falls values b a nb e)
-          [ inl v ↦ one_type a b w.heads w.arguments (within_both (nullability_of a) (nullability_of b) w.nulls v.nulls)
-          | inr l ↦ absurd (same_height _ _ (ap height w.heads) l) ]
-      | inr l ↦ elim (falls values b a nb e)
-          [ inl v ↦ absurd (same_height _ _ (ap height v.heads) l)
-          | inr m ↦ absurd (both_ways _ _ l m) ] ]
+  below_antisym values a b na nb d e = elim (falls values a b na d) [
+    | inl w ↦ elim (falls values b a nb e) [
+      | inl v ↦ one_type a b w.heads w.arguments (within_both (nullability_of a) (nullability_of b) w.nulls v.nulls)
+      | inr l ↦ absurd (same_height _ _ (ap height w.heads) l)
+    ]
+    | inr l ↦ elim (falls values b a nb e) [
+      | inl v ↦ absurd (same_height _ _ (ap height v.heads) l)
+      | inr m ↦ absurd (both_ways _ _ l m)
+    ]
+  ]
     where
       same_height : (x y : ℕ) → x ≡ y → x < y → ⊥
       same_height x y e l = omega arith
+
       both_ways : (x y : ℕ) → x < y → y < x → ⊥
       both_ways x y l m = omega arith
 
   -- type parameters are invariant
   pub below_invariant : HasValues classes → (a b : KKind) → head_of a ≢ head.Nothing → head_of a ≡ head_of b → Below classes a b → arguments_of a ≡ arguments_of b
-  below_invariant values a b na e d = elim (falls values a b na d)
-      [ inl w ↦ w.arguments
-      | inr l ↦ absurd (same_height _ _ (ap height e) l) ]
+  below_invariant values a b na e d = elim (falls values a b na d) [
+    | inl w ↦ w.arguments
+    | inr l ↦ absurd (same_height _ _ (ap height e) l)
+  ]
     where
       same_height : (x y : ℕ) → x ≡ y → y < x → ⊥
       same_height x y e l = omega arith

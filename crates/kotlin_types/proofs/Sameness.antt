@@ -9,10 +9,9 @@ use Rattle.kotlin_types.specs.declared.kinds.KClassRef.TheVariants as class
 use Rattle.kotlin_types.specs.declared.kinds.KHead.{KHead}
 use Rattle.kotlin_types.specs.declared.kinds.KHead.TheVariants as head
 use Rattle.kotlin_types.specs.declared.kinds.Nullability.{Nullability}
-use Rattle.kotlin_types.specs.declared.kinds.Nullability.TheVariants as null
-use Rattle.kotlin_types.specs.declared.kinds.KKind.{KKind, roll-KKind, out-KKind, map-KKind, out-roll-KKind, roll-out-KKind, ind-KKind}
+use Rattle.kotlin_types.specs.declared.kinds.KKind.{KKind, roll-KKind, out-KKind, map-KKind, out-roll-KKind, ind-KKind}
 use Rattle.kotlin_types.specs.declared.kinds.KKind.TheOpen.{KKind-F}
-use Rattle.kotlin_types.specs.Types.{arguments_of, head_of, nullability_of, nullable, same, same_but_null, same_by, same_class, same_each, same_head, same_kind, same_nullability}
+use Rattle.kotlin_types.specs.Types.{arguments_of, head_of, nullable, same, same_but_null, same_by, same_class, same_each, same_head, same_kind, same_nullability}
 use Rattle.kotlin_types.proofs.Forms.{one_type, out_type, same_at}
 use Rattle.kotlin_types.proofs.Nulls.{within_both, within_itself}
 
@@ -103,9 +102,9 @@ rolled_tells x y h =
     let two = and_tells (same_head x.head (head_of y)) _ e in
     let three = and_tells (same_each (map same (map own x.arguments)) (arguments_of y)) _ two.1 in
     one_type (roll-KKind z) y
-        (ap (λ (o : KKind-F KKind). o.head) (out-roll-KKind z) ∙ head_tells _ _ two.0)
-        (ap (λ (o : KKind-F KKind). o.arguments) (out-roll-KKind z) ∙ each_tells x.arguments (arguments_of y) three.0)
-        (ap (λ (o : KKind-F KKind). o.nullability) (out-roll-KKind z) ∙ nulls_tell x.nullability _ three.1)
+    (ap (λ (o : KKind-F KKind). o.head) (out-roll-KKind z) ∙ head_tells _ _ two.0)
+    (ap (λ (o : KKind-F KKind). o.arguments) (out-roll-KKind z) ∙ each_tells x.arguments (arguments_of y) three.0)
+    (ap (λ (o : KKind-F KKind). o.nullability) (out-roll-KKind z) ∙ nulls_tell x.nullability _ three.1)
 
 pub same_tells : (x y : KKind) → same x y ≡ true → x ≡ y
 same_tells = ind-KKind Tells (λ x y is. subst (λ (z : KKind-F KKind). Tells (roll-KKind z)) is (rolled_tells y))
@@ -141,13 +140,14 @@ equal_same x y e = subst (λ z. same x z ≡ true) e (same_itself x)
 
 pub but_null_tells : (x y : KKind) → same_but_null x y ≡ true → (head_of x ≡ head_of y) × (arguments_of x ≡ arguments_of y)
 but_null_tells x y e =
-    let one : nullable x ≡ nullable y = same_tells (nullable x) (nullable y) e in
-    (sym (ap (λ (o : KKind-F KKind). o.head) (out_type _ _ _)) ∙ (ap head_of one ∙ ap (λ (o : KKind-F KKind). o.head) (out_type _ _ _)),
-     sym (ap (λ (o : KKind-F KKind). o.arguments) (out_type _ _ _)) ∙ (ap arguments_of one ∙ ap (λ (o : KKind-F KKind). o.arguments) (out_type _ _ _)))
+    let one : nullable x ≡ nullable y = same_tells (nullable x) (nullable y) e in (
+      sym (ap (λ (o : KKind-F KKind). o.head) (out_type _ _ _)) ∙ (ap head_of one ∙ ap (λ (o : KKind-F KKind). o.head) (out_type _ _ _)),
+      sym (ap (λ (o : KKind-F KKind). o.arguments) (out_type _ _ _)) ∙ (ap arguments_of one ∙ ap (λ (o : KKind-F KKind). o.arguments) (out_type _ _ _)),
+    )
 
 pub but_null_same : (x y : KKind) → head_of x ≡ head_of y → arguments_of x ≡ arguments_of y → same_but_null x y ≡ true
 but_null_same x y h a =
     equal_same (nullable x) (nullable y) (one_type (nullable x) (nullable y)
-        (ap (λ (o : KKind-F KKind). o.head) (out_type _ _ _) ∙ (h ∙ sym (ap (λ (o : KKind-F KKind). o.head) (out_type _ _ _))))
-        (ap (λ (o : KKind-F KKind). o.arguments) (out_type _ _ _) ∙ (a ∙ sym (ap (λ (o : KKind-F KKind). o.arguments) (out_type _ _ _))))
-        (ap (λ (o : KKind-F KKind). o.nullability) (out_type _ _ _) ∙ sym (ap (λ (o : KKind-F KKind). o.nullability) (out_type _ _ _))))
+    (ap (λ (o : KKind-F KKind). o.head) (out_type _ _ _) ∙ (h ∙ sym (ap (λ (o : KKind-F KKind). o.head) (out_type _ _ _))))
+    (ap (λ (o : KKind-F KKind). o.arguments) (out_type _ _ _) ∙ (a ∙ sym (ap (λ (o : KKind-F KKind). o.arguments) (out_type _ _ _))))
+    (ap (λ (o : KKind-F KKind). o.nullability) (out_type _ _ _) ∙ sym (ap (λ (o : KKind-F KKind). o.nullability) (out_type _ _ _))))

@@ -68,7 +68,7 @@ one_nearest : (name : List ℕ) (r : KLocal) (rows : List KLocal) (row : KLocal)
 one_nearest name r rows row false none is h = cc
 one_nearest name r rows row true none is h =
     subst (IsNearest name (r ∷ rows)) (some_same r row h)
-      (record { before = []; after = rows; among = refl; named = is; last = λ other some more split. none_there name other some more (subst (λ z. nearest name z ≡ None) split none) })
+    (record { before = []; after = rows; among = refl; named = is; last = λ other some more split. none_there name other some more (subst (λ z. nearest name z ≡ None) split none) })
 
 nearest_by : (name : List ℕ) (r : KLocal) (rows : List KLocal) (row : KLocal) (o : Option KLocal) → nearest name rows ≡ o → nearer o r name ≡ Some row → (o ≡ Some row → IsNearest name rows row) → IsNearest name (r ∷ rows) row
 nearest_by name r rows row None is h rest = one_nearest name r rows row (bytes_eq r.name name) is refl h
@@ -134,23 +134,25 @@ module _ (w : KTables) where
   pub local_placed : (s : KScope) (x : KDeclared) (at : Position) (value : KExpr) (want : KKind) → meant w x.kind ≡ Some want → IsTypedStatement w s (st.Local x at value) → IsPlaced w s value want
   local_placed s x at value want is h =
       placed s value want (subst (λ o. faults_in (as_placed w (form w value) s o) ≡ []) is
-        (clean_right (written w x.kind s.path).notes (as_placed w (form w value) s (meant w x.kind)) (subst (λ (l : Line). faults_in (l.notes s) ≡ []) (q.on_Local w x at value) h)))
+      (clean_right (written w x.kind s.path).notes (as_placed w (form w value) s (meant w x.kind)) (subst (λ (l : Line). faults_in (l.notes s) ≡ []) (q.on_Local w x at value) h)))
 
   pub expression_typed : (s : KScope) (x : KExpr) → IsTypedStatement w s (st.Expression x) → IsTyped w s x
   expression_typed s x h = subst (λ (l : Line). faults_in (l.notes s) ≡ []) (q.on_Expression w x) h
 
   pub if_told : (s : KScope) (at : KHeadAt) (condition : KExpr) (curly : Brackets) (xs : List KStmt) → IsTypedStatement w s (st.If at condition curly xs) → IsPlaced w s condition boolean × AreTyped w s xs
   if_told s at condition curly xs h =
-      let all = subst (λ (l : Line). faults_in (l.notes s) ≡ []) (q.on_If w at condition curly xs) h in
-      (placed s condition boolean (clean_left (as_wanted w (form w condition) s boolean) _ all),
-       clean_right (as_wanted w (form w condition) s boolean) (lines_notes (map (line w) xs) s) all)
+      let all = subst (λ (l : Line). faults_in (l.notes s) ≡ []) (q.on_If w at condition curly xs) h in (
+        placed s condition boolean (clean_left (as_wanted w (form w condition) s boolean) _ all),
+        clean_right (as_wanted w (form w condition) s boolean) (lines_notes (map (line w) xs) s) all,
+      )
 
   pub while_told : (s : KScope) (label : Option KLabel) (at : KHeadAt) (condition : KExpr) (curly : Brackets) (xs : List KStmt) → IsTypedStatement w s (st.While label at condition curly xs) →
       IsPlaced w s condition boolean × AreTyped w (in_loop (t.label_of label) s) xs
   while_told s label at condition curly xs h =
-      let all = subst (λ (l : Line). faults_in (l.notes s) ≡ []) (q.on_While w label at condition curly xs) h in
-      (placed s condition boolean (clean_left (as_wanted w (form w condition) s boolean) _ all),
-       clean_right (as_wanted w (form w condition) s boolean) (lines_notes (map (line w) xs) (in_loop (t.label_of label) s)) all)
+      let all = subst (λ (l : Line). faults_in (l.notes s) ≡ []) (q.on_While w label at condition curly xs) h in (
+        placed s condition boolean (clean_left (as_wanted w (form w condition) s boolean) _ all),
+        clean_right (as_wanted w (form w condition) s boolean) (lines_notes (map (line w) xs) (in_loop (t.label_of label) s)) all,
+      )
 
   pub throw_placed : (s : KScope) (at : Position) (x : KExpr) → IsTypedStatement w s (st.Throw at x) → IsPlaced w s x t.throwable
   throw_placed s at x h = placed s x t.throwable (subst (λ (l : Line). faults_in (l.notes s) ≡ []) (q.on_Throw w at x) h)
@@ -172,9 +174,10 @@ module _ (w : KTables) where
 
   -- statements in their order: the first at this place, the others behind it
   pub first_told : (s : KScope) (x : KStmt) (xs : List KStmt) → AreTyped w s (x ∷ xs) → IsTypedStatement w s x × AreTyped w (behind_statement w s x) xs
-  first_told s x xs h =
-      (clean_left ((line w x).notes s) _ (clean_left (line_notes (line w x) s) _ h),
-       clean_right (line_notes (line w x) s) (lines_notes (map (line w) xs) (behind_statement w s x)) h)
+  first_told s x xs h = (
+    clean_left ((line w x).notes s) _ (clean_left (line_notes (line w x) s) _ h),
+    clean_right (line_notes (line w x) s) (lines_notes (map (line w) xs) (behind_statement w s x)) h,
+  )
 
   -- the value of an assignment is below its target's type, and the target is open
   open_told : (s : KScope) (at : Position) (b : Bool) → faults_in (if b then [] else fault s 10 at) ≡ [] → b ≡ true
@@ -186,9 +189,10 @@ module _ (w : KTables) where
   assign_told s target at value to is h =
       let all = subst (λ (l : Line). faults_in (l.notes s) ≡ []) (q.on_Assign w target at value) h in
       let rest = subst (λ o. faults_in (t.assign_by w s (form w target).first (form w value) o) ≡ []) is
-            (clean_right ((form w target).target s).notes (t.assign_by w s (form w target).first (form w value) ((form w target).target s).result) all) in
-      (open_told s (form w target).first to.is_open (clean_left (if to.is_open then [] else fault s 10 (form w target).first) _ rest),
-       placed s value to.kind (clean_right (if to.is_open then [] else fault s 10 (form w target).first) (as_wanted w (form w value) s to.kind) rest))
+      (clean_right ((form w target).target s).notes (t.assign_by w s (form w target).first (form w value) ((form w target).target s).result) all) in (
+        open_told s (form w target).first to.is_open (clean_left (if to.is_open then [] else fault s 10 (form w target).first) _ rest),
+        placed s value to.kind (clean_right (if to.is_open then [] else fault s 10 (form w target).first) (as_wanted w (form w value) s to.kind) rest),
+      )
 
 -- ---- members
 
@@ -219,9 +223,9 @@ module _ (w : KTables) where
       let reads = clean_left (t.field_by w s (form w x) n.name None).notes (after (t.field_by w s (form w x) n.name None).result t.kind_of).notes notes in
       let found = has_type w s x (clean_left ((form w x).judge s).notes (after ((form w x).judge s).result (t.property_in w s (form w x).first (form w x).is_this n.name)).notes reads) in
       let told = property_told s (form w x).first (is_sure found.0) (t.property_of w s (form w x).is_this n.name found.0) k
-            (subst (λ o. faults_in (after o (t.property_in w s (form w x).first (form w x).is_this n.name)).notes ≡ []) found.1.is
-              (clean_right ((form w x).judge s).notes (after ((form w x).judge s).result (t.property_in w s (form w x).first (form w x).is_this n.name)).notes reads))
-            (subst (λ o. (after (after o (t.property_in w s (form w x).first (form w x).is_this n.name)).result t.kind_of).result ≡ Some k) found.1.is gives) in
+      (subst (λ o. faults_in (after o (t.property_in w s (form w x).first (form w x).is_this n.name)).notes ≡ []) found.1.is
+      (clean_right ((form w x).judge s).notes (after ((form w x).judge s).result (t.property_in w s (form w x).first (form w x).is_this n.name)).notes reads))
+      (subst (λ o. (after (after o (t.property_in w s (form w x).first (form w x).is_this n.name)).result t.kind_of).result ≡ Some k) found.1.is gives) in
       record { object = record { kind = found.0; typed = found.1; sure = told.0 }; found = told.1.0; is = told.1.1; kind = told.1.2 }
 
   picked_told : (s : KScope) (at : Position) (b : Bool) (o : Option KCallable) (k : KKind) → (t.picked s at b o).result ≡ Some k → (m : KCallable) × (o ≡ Some m) × (m.result ≡ k)
@@ -265,8 +269,8 @@ module _ (w : KTables) where
       static w s (form w x).path ≡ None → HasType w s (e.Method x dot n types round xs commas) k → IsMethodCall w s x n.name xs k
   method_told s x dot n types round xs commas k none h =
       let notes = subst (λ o. faults_in (t.method_at w s (form w x) n.name (map (form w) xs) o).notes ≡ []) none
-            (clean_right (t.untyped s (form w x).first types) (t.method_at w s (form w x) n.name (map (form w) xs) (static w s (form w x).path)).notes
-              (subst (λ (f : Form). faults_in (f.judge s).notes ≡ []) (q.on_Method w x dot n types round xs commas) h.clean)) in
+      (clean_right (t.untyped s (form w x).first types) (t.method_at w s (form w x) n.name (map (form w) xs) (static w s (form w x).path)).notes
+      (subst (λ (f : Form). faults_in (f.judge s).notes ≡ []) (q.on_Method w x dot n types round xs commas) h.clean)) in
       let gives = subst (λ o. (t.method_at w s (form w x) n.name (map (form w) xs) o).result ≡ Some k) none (subst (λ (f : Form). (f.judge s).result ≡ Some k) (q.on_Method w x dot n types round xs commas) h.is) in
       let two = pair ((form w x).judge s) (t.arguments s (map (form w) xs)) in
       let parts = clean_left two.notes (after two.result (t.method_in w s (form w x).first n.name)).notes notes in
@@ -279,7 +283,7 @@ module _ (w : KTables) where
         arguments = args.2;
         means = means s (form w x).first n.name object.0 args.0 k (is_sure object.0) refl
             (subst (λ o. (after (both (Some object.0) o) (t.method_in w s (form w x).first n.name)).result ≡ Some k) args.1
-              (subst (λ o. (after (both o (t.arguments s (map (form w) xs)).result) (t.method_in w s (form w x).first n.name)).result ≡ Some k) object.1.is gives));
+            (subst (λ o. (after (both o (t.arguments s (map (form w) xs)).result) (t.method_in w s (form w x).first n.name)).result ≡ Some k) object.1.is gives));
       }
 
 -- ---- jumps
