@@ -6,10 +6,10 @@ use Rattle.kotlin_types.specs.declared.kinds.KHead.{KHead}
 use Rattle.kotlin_types.specs.declared.kinds.KHead.TheVariants as head
 use Rattle.kotlin_types.specs.declared.kinds.KKind.{KKind}
 use Rattle.kotlin_types.specs.declared.classes.KClasses.{KClasses}
-use Rattle.kotlin_types.specs.Types.{arguments_of, head_of, is_within, nullability_of, same_but_null, same_head}
+use Rattle.kotlin_types.specs.Types.{head_of, nullability_of, same_but_null, same_head}
 use Rattle.kotlin_types.specs.Supertypes.{above, climbed, direct, is_nothing, is_subtype, joined, meets, takes_null}
 use Rattle.kotlin_types.specs.Below.{Below, HasHeights, IsIn, Widens, nothing, up, wider}
-use Rattle.kotlin_types.proofs.Sameness.{and_holds, and_tells, but_null_same, but_null_tells, head_same, head_tells}
+use Rattle.kotlin_types.proofs.Sameness.{and_holds, and_tells, but_null_same, but_null_tells, head_tells}
 
 -- ---- members of lists
 

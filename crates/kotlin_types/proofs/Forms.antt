@@ -1,5 +1,5 @@
 -- Types by their parts.
-use Rattle.std.proofs.Common.{◌≡◌, ℕ, Bool, true, false, List, [], ◌∷◌, map, refl, sym, ap, ◌∙◌}
+use Rattle.std.proofs.Common.{◌≡◌, Bool, List, map, sym, ap, ◌∙◌}
 use Rattle.std.specs.Prelude.{◌&&◌}
 use Rattle.kotlin_types.specs.declared.kinds.KClassRef.{KClassRef}
 use Rattle.kotlin_types.specs.declared.kinds.KHead.{KHead}

@@ -1,6 +1,5 @@
 -- What types say of null.
-use Rattle.std.proofs.Common.{◌≡◌, Bool, true, false, refl, sym, ap, ◌∙◌, subst}
-use Rattle.std.specs.Prelude.{◌&&◌}
+use Rattle.std.proofs.Common.{◌≡◌, true, refl, sym, ap, ◌∙◌}
 use Rattle.kotlin_types.specs.declared.kinds.Nullability.{Nullability}
 use Rattle.kotlin_types.specs.declared.kinds.Nullability.TheVariants as null
 use Rattle.kotlin_types.specs.Types.{is_within, lifted}

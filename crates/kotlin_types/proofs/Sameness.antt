@@ -9,10 +9,9 @@ use Rattle.kotlin_types.specs.declared.kinds.KClassRef.TheVariants as class
 use Rattle.kotlin_types.specs.declared.kinds.KHead.{KHead}
 use Rattle.kotlin_types.specs.declared.kinds.KHead.TheVariants as head
 use Rattle.kotlin_types.specs.declared.kinds.Nullability.{Nullability}
-use Rattle.kotlin_types.specs.declared.kinds.Nullability.TheVariants as null
-use Rattle.kotlin_types.specs.declared.kinds.KKind.{KKind, roll-KKind, out-KKind, map-KKind, out-roll-KKind, roll-out-KKind, ind-KKind}
+use Rattle.kotlin_types.specs.declared.kinds.KKind.{KKind, roll-KKind, out-KKind, map-KKind, out-roll-KKind, ind-KKind}
 use Rattle.kotlin_types.specs.declared.kinds.KKind.TheOpen.{KKind-F}
-use Rattle.kotlin_types.specs.Types.{arguments_of, head_of, nullability_of, nullable, same, same_but_null, same_by, same_class, same_each, same_head, same_kind, same_nullability}
+use Rattle.kotlin_types.specs.Types.{arguments_of, head_of, nullable, same, same_but_null, same_by, same_class, same_each, same_head, same_kind, same_nullability}
 use Rattle.kotlin_types.proofs.Forms.{one_type, out_type, same_at}
 use Rattle.kotlin_types.proofs.Nulls.{within_both, within_itself}
 

@@ -1,5 +1,5 @@
 -- Supertypes with their arguments (Kotlin specification, "Subtyping", "Subtyping rules").
-use Rattle.std.specs.Prelude.{ℕ, zero, suc, Bool, false, ◌&&◌, ◌||◌, ◌==◌, not, List, [], ◌∷◌, ◌++◌, Option, Some, None, map, find, slice_get}
+use Rattle.std.specs.Prelude.{ℕ, zero, suc, Bool, ◌&&◌, ◌||◌, List, [], ◌∷◌, ◌++◌, Option, Some, None, map, find, slice_get}
 use Rattle.std.specs.List.{list_any}
 use Rattle.kotlin_types.specs.declared.kinds.KClassRef.{KClassRef}
 use Rattle.kotlin_types.specs.declared.kinds.KClassRef.TheVariants as class
@@ -10,7 +10,7 @@ use Rattle.kotlin_types.specs.declared.kinds.Nullability.TheVariants as null
 use Rattle.kotlin_types.specs.declared.kinds.KKind.{KKind}
 use Rattle.kotlin_types.specs.declared.classes.KClassHead.{KClassHead}
 use Rattle.kotlin_types.specs.declared.classes.KClasses.{KClasses}
-use Rattle.kotlin_types.specs.Types.{any, arguments_of, head_of, is_within, lift, nullability_of, put, same_but_null, same_class, same_head}
+use Rattle.kotlin_types.specs.Types.{any, arguments_of, head_of, is_within, lift, nullability_of, put, same_but_null, same_head}
 
 -- ---- what is declared
 

@@ -6,3 +6,4 @@ pub mod Operators
 pub mod Forms
 pub mod Typing
 pub mod Premises
+pub mod Bodies
