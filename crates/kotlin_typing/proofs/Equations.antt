@@ -17,7 +17,7 @@ use Rattle.kotlin_tree.specs.declared.expressions.KSuperAt.{KSuperAt}
 use Rattle.kotlin_tree.specs.declared.expressions.KLambdaNames.{KLambdaNames}
 use Rattle.kotlin_tree.specs.declared.expressions.KChoice.{KChoice, roll-KChoice, map-KChoice, fold-roll-KChoice}
 use Rattle.kotlin_tree.specs.declared.expressions.KExpr.{KExpr, roll-KExpr, map-KExpr, fold-roll-KExpr}
-use Rattle.kotlin_tree.specs.declared.expressions.KExpr.TheOpen.{KExpr-F, KStmt-F, KChoice-F, KBranch-F, KCatch-F}
+use Rattle.kotlin_tree.specs.declared.expressions.KExpr.TheOpen.{KExpr-F, KStmt-F, KChoice-F}
 use Rattle.kotlin_tree.specs.declared.expressions.KExpr.TheVariants as e
 use Rattle.kotlin_tree.specs.declared.expressions.KExpr.TheViews.{roll-KStmt}
 use Rattle.kotlin_tree.specs.declared.statements.KDeclared.{KDeclared}

@@ -16,22 +16,22 @@ use Rattle.kotlin_tree.specs.declared.statements.KLabel.{KLabel}
 use Rattle.kotlin_tree.specs.declared.statements.KStmt.{KStmt}
 use Rattle.kotlin_tree.specs.declared.statements.KStmt.TheVariants as st
 use Rattle.kotlin_types.specs.declared.kinds.KKind.{KKind}
-use Rattle.kotlin_types.specs.Types.{boolean, is_sure, not_null, string}
+use Rattle.kotlin_types.specs.Types.{boolean, is_sure, string}
 use Rattle.kotlin_types.specs.Supertypes.{is_subtype}
 use Rattle.kotlin_typing.specs.declared.scope.KLocal.{KLocal}
 use Rattle.kotlin_typing.specs.declared.scope.KScope.{KScope}
 use Rattle.kotlin_typing.specs.declared.tables.KCallable.{KCallable}
 use Rattle.kotlin_typing.specs.declared.tables.KTables.{KTables}
-use Rattle.kotlin_typing.specs.Notes.{Notes, Typed, fault, faulty}
+use Rattle.kotlin_typing.specs.Notes.{fault, faulty}
 use Rattle.kotlin_typing.specs.declared.scope.KAround.{KAround}
 use Rattle.kotlin_typing.specs.declared.scope.KAround.TheVariants as around
-use Rattle.kotlin_typing.specs.Scopes.{is_meant, reaches_from, declared, in_lock, in_loop, nearer, nearest, past, reaches}
-use Rattle.kotlin_typing.specs.Written.{Path, meant, written}
-use Rattle.kotlin_typing.specs.Members.{all_below, callables_of, chosen, is_applicable, is_chosen, is_most_specific, none_applies}
-use Rattle.kotlin_typing.specs.Forms.{Form, Line, Stored, as_placed, as_sure, as_wanted, fits, judged, kind_or, line_notes, lines_notes, mismatch, sure_by, twice}
+use Rattle.kotlin_typing.specs.Scopes.{is_meant, reaches_from, in_lock, in_loop, nearer, nearest, reaches}
+use Rattle.kotlin_typing.specs.Written.{meant, written}
+use Rattle.kotlin_typing.specs.Members.{callables_of, chosen, is_applicable, is_chosen, is_most_specific, none_applies}
+use Rattle.kotlin_typing.specs.Forms.{Form, Line, Stored, as_placed, as_sure, as_wanted, fits, judged, kind_or, line_notes, lines_notes, mismatch, sure_by}
 use Rattle.kotlin_typing.specs.Typing as t
 use Rattle.kotlin_typing.specs.Typing.{form, line, static}
-use Rattle.kotlin_typing.specs.Premises.{AreLoops, FindsLoop, AllHave, AreTyped, HasType, IsCalled, IsMethodCall, IsNearest, IsPlaced, IsRead, IsSureValue, IsTyped, IsTypedStatement, Means, behind_statement, called, given, text}
+use Rattle.kotlin_typing.specs.Premises.{AreLoops, FindsLoop, AllHave, AreTyped, HasType, IsMethodCall, IsNearest, IsPlaced, IsRead, IsSureValue, IsTyped, IsTypedStatement, Means, behind_statement, called, given, text}
 use Rattle.kotlin_typing.proofs.Equations as q
 use Rattle.kotlin_typing.proofs.Whole.{clean_left, clean_right, whole}
 

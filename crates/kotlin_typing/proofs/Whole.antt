@@ -1,11 +1,9 @@
 -- Where no fault is noted of an expression it has a type.
-use Rattle.std.proofs.Common.{◌≡◌, ℕ, Bool, true, false, List, [], ◌∷◌, ◌++◌, map, Option, Some, None, refl, sym, ap, subst, ◌∙◌}
+use Rattle.std.proofs.Common.{◌≡◌, ℕ, Bool, true, false, List, [], ◌∷◌, ◌++◌, map, Option, Some, None, refl, sym, subst, ◌∙◌}
 use Rattle.std.specs.Prelude.{IsSome, if◌then◌else◌}
-use Rattle.std.specs.Option.{option_map}
-use Rattle.judged.specs.declared.notes.Note.{Note}
 use Rattle.judged.specs.Notes.{faults_in}
-use Rattle.judged.specs.Judged.{AllWhole, IsWhole, Judged, each, good, pair, ◌>>=◌}
-use Rattle.judged.proofs.LawsToCite.{faults_in-append, whole_cons, whole_each, whole_pair, whole_then}
+use Rattle.judged.specs.Judged.{AllWhole, IsWhole, each, good, pair, ◌>>=◌}
+use Rattle.judged.proofs.LawsToCite.{faults_in-append, whole_each, whole_pair, whole_then}
 use Rattle.kotlin_tree.specs.declared.places.Position.{Position}
 use Rattle.kotlin_tree.specs.declared.types.KTypeArguments.{KTypeArguments}
 use Rattle.kotlin_tree.specs.declared.types.KName.{KName}
@@ -17,7 +15,7 @@ use Rattle.kotlin_tree.specs.declared.expressions.KPostfix.{KPostfix}
 use Rattle.kotlin_tree.specs.declared.expressions.KPostfix.TheVariants as postfix
 use Rattle.kotlin_tree.specs.declared.expressions.KChoice.{KChoice, roll-KChoice}
 use Rattle.kotlin_tree.specs.declared.expressions.KExpr.{KExpr, roll-KExpr, ind-KExpr, map-KExpr}
-use Rattle.kotlin_tree.specs.declared.expressions.KExpr.TheOpen.{KExpr-F, KStmt-F, KChoice-F, KBranch-F, KCatch-F}
+use Rattle.kotlin_tree.specs.declared.expressions.KExpr.TheOpen.{KExpr-F, KStmt-F, KChoice-F}
 use Rattle.kotlin_tree.specs.declared.expressions.KExpr.TheViews.{roll-KStmt}
 use Rattle.kotlin_tree.specs.declared.statements.KBranch.{KBranch}
 use Rattle.kotlin_tree.specs.declared.statements.KCatch.{KCatch}
@@ -33,11 +31,11 @@ use Rattle.kotlin_typing.specs.declared.tables.KCallable.{KCallable}
 use Rattle.kotlin_typing.specs.declared.tables.KFace.{KFace}
 use Rattle.kotlin_typing.specs.declared.tables.KTypeVariable.{KTypeVariable}
 use Rattle.kotlin_typing.specs.declared.tables.KTables.{KTables}
-use Rattle.kotlin_typing.specs.Notes.{Notes, Typed, fault, faulty}
+use Rattle.kotlin_typing.specs.Notes.{Notes, Typed, faulty}
 use Rattle.kotlin_typing.specs.Scopes as sc
 use Rattle.kotlin_typing.specs.Written as wr
 use Rattle.kotlin_typing.specs.Written.{Path, written}
-use Rattle.kotlin_typing.specs.Forms.{Branch, Catch, Choice, Form, Line, Stored, behind, judged, kind_or, last_gives, line_notes, lines_notes}
+use Rattle.kotlin_typing.specs.Forms.{Choice, Form, Line, Stored, behind, judged, kind_or, last_gives, line_notes, lines_notes}
 use Rattle.kotlin_typing.specs.Typing as t
 use Rattle.kotlin_typing.specs.Typing.{choice_form, form, form_by, line, line_by}
 use Rattle.kotlin_typing.proofs.Equations.{choice_at, form_at, line_at}

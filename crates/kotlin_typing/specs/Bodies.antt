@@ -2,9 +2,7 @@
 use Rattle.std.specs.Prelude.{◌≡◌, ℕ, Bool, true, false, if◌then◌else◌, List, [], ◌∷◌, ◌++◌, map, Option, Some, None, bytes_eq}
 use Rattle.std.specs.List.{list_any}
 use Rattle.judged.specs.Notes.{faults_in}
-use Rattle.judged.specs.Judged.{Judged, each, ◌>>=◌}
-use Rattle.kotlin_tree.specs.declared.places.Position.{Position}
-use Rattle.kotlin_tree.specs.declared.types.KName.{KName}
+use Rattle.judged.specs.Judged.{◌>>=◌}
 use Rattle.kotlin_tree.specs.declared.types.KType.{KType}
 use Rattle.kotlin_tree.specs.declared.statements.KBlock.{KBlock}
 use Rattle.kotlin_tree.specs.declared.members.KParam.{KParam}
@@ -21,7 +19,7 @@ use Rattle.kotlin_types.specs.declared.kinds.KClassRef.{KClassRef}
 use Rattle.kotlin_types.specs.declared.kinds.KHead.{KHead}
 use Rattle.kotlin_types.specs.declared.kinds.KHead.TheVariants as head
 use Rattle.kotlin_types.specs.declared.kinds.KKind.{KKind}
-use Rattle.kotlin_types.specs.Types.{arguments_of, head_of, unit}
+use Rattle.kotlin_types.specs.Types.{arguments_of, head_of}
 use Rattle.kotlin_types.specs.Supertypes.{direct}
 use Rattle.kotlin_typing.specs.declared.scope.KLocal.{KLocal}
 use Rattle.kotlin_typing.specs.declared.scope.KReturns.{KReturns}
@@ -31,11 +29,11 @@ use Rattle.kotlin_typing.specs.declared.scope.KPart.TheVariants as part
 use Rattle.kotlin_typing.specs.declared.scope.KScope.{KScope}
 use Rattle.kotlin_typing.specs.declared.tables.KCallable.{KCallable}
 use Rattle.kotlin_typing.specs.declared.tables.KTables.{KTables}
-use Rattle.kotlin_typing.specs.Notes.{Notes, Typed, fault}
+use Rattle.kotlin_typing.specs.Notes.{Notes, fault}
 use Rattle.kotlin_typing.specs.Scopes.{parameter}
 use Rattle.kotlin_typing.specs.Written.{meant, written}
 use Rattle.kotlin_typing.specs.Members.{constructors_of}
-use Rattle.kotlin_typing.specs.Forms.{Form, Line, as_placed, judged, lines_notes}
+use Rattle.kotlin_typing.specs.Forms.{as_placed, lines_notes}
 use Rattle.kotlin_typing.specs.Typing.{arguments, form, line, one_of, returned, this_type}
 
 -- ---- places of members

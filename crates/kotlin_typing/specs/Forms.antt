@@ -1,6 +1,5 @@
 -- What is known of an expression and of a statement, and lists of statements.
-use Rattle.std.specs.Prelude.{ℕ, Bool, true, false, not, if◌then◌else◌, List, [], ◌∷◌, ◌++◌, Option, Some, None}
-use Rattle.judged.specs.Judged.{Judged}
+use Rattle.std.specs.Prelude.{ℕ, Bool, true, false, if◌then◌else◌, List, [], ◌∷◌, ◌++◌, Option, Some, None}
 use Rattle.kotlin_tree.specs.declared.places.Position.{Position}
 use Rattle.kotlin_types.specs.declared.kinds.KKind.{KKind}
 use Rattle.kotlin_types.specs.Types.{is_sure, unit}

@@ -1,10 +1,9 @@
 -- Which members a value or a class has, and which of several callables is meant (Kotlin specification, "Overload resolution",
 -- for the profile: by number and types of arguments, the most specific first).
-use Rattle.std.specs.Prelude.{ℕ, Bool, true, false, not, ◌&&◌, ◌||◌, List, [], ◌∷◌, ◌++◌, Option, Some, None, map, find, bytes_eq, codes, if◌then◌else◌, is_some}
+use Rattle.std.specs.Prelude.{ℕ, Bool, true, false, not, ◌&&◌, ◌||◌, List, [], ◌∷◌, Option, Some, None, map, find, bytes_eq, codes, if◌then◌else◌, is_some}
 use Rattle.std.specs.List.{list_all, filter, flat_map}
 use Rattle.j2k_base.specs.declared.constants.Kind.{Kind}
 use Rattle.j2k_base.specs.declared.constants.Kind.TheVariants as kind
-use Rattle.java_lib.specs.Library.{byte_class, character_class, integer_class, long_class, short_class}
 use Rattle.kotlin_types.specs.declared.kinds.KClassRef.{KClassRef}
 use Rattle.kotlin_types.specs.declared.kinds.KHead.{KHead}
 use Rattle.kotlin_types.specs.declared.kinds.KHead.TheVariants as head

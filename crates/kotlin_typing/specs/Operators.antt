@@ -1,10 +1,7 @@
 -- Which operands an operator takes, and what it gives: two numbers `Int` or two `Long`, as conversions are written
 -- (Kotlin specification, "Expressions").
 use Rattle.std.specs.Prelude.{Bool, true, false, not, ◌&&◌, ◌||◌, if◌then◌else◌, Option, Some, None}
-use Rattle.std.specs.Option.{option_or}
 use Rattle.j2k_base.specs.declared.constants.Kind.TheVariants as kind
-use Rattle.kotlin_tree.specs.declared.expressions.KPrefix.{KPrefix}
-use Rattle.kotlin_tree.specs.declared.expressions.KPrefix.TheVariants as prefix
 use Rattle.kotlin_tree.specs.declared.expressions.KBinary.{KBinary}
 use Rattle.kotlin_tree.specs.declared.expressions.KBinary.TheVariants as binary
 use Rattle.kotlin_types.specs.declared.kinds.KKind.{KKind}

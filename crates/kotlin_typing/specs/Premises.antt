@@ -1,5 +1,5 @@
 -- What a well typed part is, and what is known of its parts, construct by construct.
-use Rattle.std.specs.Prelude.{◌≡◌, ◌≢◌, ◌⊎◌, ℕ, Bool, true, false, List, [], ◌∷◌, ◌++◌, map, Option, Some, None, bytes_eq}
+use Rattle.std.specs.Prelude.{◌≡◌, ℕ, true, false, List, [], ◌∷◌, ◌++◌, map, Option, Some, bytes_eq}
 use Rattle.judged.specs.Notes.{faults_in}
 use Rattle.kotlin_tree.specs.declared.expressions.KExpr.{KExpr}
 use Rattle.kotlin_tree.specs.declared.statements.KStmt.{KStmt}

@@ -5,7 +5,6 @@ use Rattle.kotlin_typing.specs.declared.scope.KLocal.{KLocal}
 use Rattle.kotlin_typing.specs.declared.scope.KAround.{KAround}
 use Rattle.kotlin_typing.specs.declared.scope.KAround.TheVariants as around
 use Rattle.kotlin_typing.specs.declared.scope.KReturns.{KReturns}
-use Rattle.kotlin_typing.specs.declared.scope.KReturns.TheVariants as returns
 use Rattle.kotlin_typing.specs.declared.scope.KPart.{KPart}
 use Rattle.kotlin_typing.specs.declared.scope.KPart.TheVariants as part
 use Rattle.kotlin_typing.specs.declared.scope.KStore.TheVariants as store

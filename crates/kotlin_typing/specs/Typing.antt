@@ -1,16 +1,14 @@
 -- The typing of the Kotlin profile: one case for each construct. A part has a fault of its own only where its parts have types.
-use Rattle.std.specs.Prelude.{ℕ, Bool, true, false, not, ◌&&◌, ◌||◌, ◌==◌, if◌then◌else◌, List, [], ◌∷◌, ◌++◌, map, find, Option, Some, None, bytes_eq, codes, is_some, length}
+use Rattle.std.specs.Prelude.{ℕ, Bool, true, false, not, ◌&&◌, ◌||◌, if◌then◌else◌, List, [], ◌∷◌, ◌++◌, map, find, Option, Some, None, bytes_eq, codes, is_some, length}
 use Rattle.std.specs.List.{list_any}
 use Rattle.std.specs.Option.{option_map, option_or}
-use Rattle.j2k_base.specs.declared.constants.Kind.{Kind}
 use Rattle.j2k_base.specs.declared.constants.Kind.TheVariants as kind
 use Rattle.java_lib.specs.Library.{list_class, throwable_class}
-use Rattle.judged.specs.Judged.{Judged, each, good, pair, ◌>>=◌}
+use Rattle.judged.specs.Judged.{each, good, pair, ◌>>=◌}
 use Rattle.kotlin_tree.specs.declared.places.Position.{Position}
 use Rattle.kotlin_tree.specs.declared.types.KName.{KName}
 use Rattle.kotlin_tree.specs.declared.types.KType.{KType, fold-KType}
 use Rattle.kotlin_tree.specs.declared.types.KType.TheOpen.{KType-F}
-use Rattle.kotlin_tree.specs.declared.types.KQualified.{KQualified}
 use Rattle.kotlin_tree.specs.declared.types.KTypeArguments.{KTypeArguments}
 use Rattle.kotlin_tree.specs.declared.expressions.KLiteral.{KLiteral}
 use Rattle.kotlin_tree.specs.declared.expressions.KLiteral.TheVariants as literal
@@ -53,7 +51,7 @@ use Rattle.kotlin_typing.specs.declared.tables.KProperty.{KProperty}
 use Rattle.kotlin_typing.specs.declared.tables.KFace.{KFace}
 use Rattle.kotlin_typing.specs.declared.tables.KTables.{KTables}
 use Rattle.kotlin_typing.specs.Notes.{Notes, Typed, fault, faulty}
-use Rattle.kotlin_typing.specs.Scopes.{declared, has_this, in_lambda, in_lock, in_loop, in_run, initializes, initializes_companion, is_locked, lambda_around, nearest, parameter, past, past_no, past_yes, reaches, with_parameter}
+use Rattle.kotlin_typing.specs.Scopes.{has_this, in_lambda, in_lock, in_loop, in_run, initializes, initializes_companion, is_locked, lambda_around, nearest, parameter, past, past_no, past_yes, reaches, with_parameter}
 use Rattle.kotlin_typing.specs.Written.{Path, arguments_written, bounds_of, class_at, fits_class, meant, path_of, same_path, written}
 use Rattle.kotlin_typing.specs.Members.{callables_above, callables_behind, callables_of, chosen, constructors_of, first_of, given_method, given_property, is_own, none_applies, properties_behind, properties_of}
 use Rattle.kotlin_typing.specs.Operators.{binary_kind, either_kind, given_where, is_boolean, is_int, is_long, sign_kind}

@@ -1,8 +1,8 @@
 -- What written types mean (Kotlin specification, "Type contexts and scopes", "Parameterized classifier types").
-use Rattle.std.specs.Prelude.{ℕ, Bool, true, false, ◌&&◌, ◌==◌, if◌then◌else◌, List, [], ◌∷◌, ◌++◌, Option, Some, None, map, find, bytes_eq, length, codes, is_some}
+use Rattle.std.specs.Prelude.{ℕ, Bool, true, false, ◌&&◌, if◌then◌else◌, List, [], ◌∷◌, Option, Some, None, map, find, bytes_eq, codes}
 use Rattle.std.specs.Option.{option_map}
 use Rattle.j2k_base.specs.declared.constants.Kind.TheVariants as kind
-use Rattle.judged.specs.Judged.{Judged, each, good, ◌>>=◌}
+use Rattle.judged.specs.Judged.{each, good, ◌>>=◌}
 use Rattle.kotlin_tree.specs.declared.places.Position.{Position}
 use Rattle.kotlin_tree.specs.declared.types.KDotted.{KDotted}
 use Rattle.kotlin_tree.specs.declared.types.KQualified.{KQualified}
