@@ -1,10 +1,9 @@
 #!/usr/bin/env python3
 """The table of small projects with their first fault of names, and what javac says of each: table.py [FOLDER].
 
-projects.txt holds a project a line: the code, or `none`; `own` where javac takes what this project's own rules refuse; `later`
-where the program doesn't find the fault yet; then `path=text` for each file. The mark § stands before the place of the fault.
-Run it at the top. It writes stdin and stdout of the program java_names_cases, of the rows that aren't for later, and where
-there is a javac, verdicts.txt: what is wanted, javac's verdict, the row. A last line says which rows don't agree: javac refuses where N1, N2, N3, N4 or N6 is wanted, and takes the project where nothing, N0 or N5 is.
+projects.txt holds a project a line: the code, or `none`; `own` where javac takes what this project's own rules refuse; then
+`path=text` for each file. The mark § stands before the place of the fault.
+Run it at the top. It writes stdin and stdout of the program java_names_cases, and where there is a javac, verdicts.txt: what is wanted, javac's verdict, the row. A last line says which rows don't agree: javac refuses where N1, N2, N3, N4 or N6 is wanted, and takes the project where nothing, N0 or N5 is.
 """
 import os
 import shutil
@@ -66,7 +65,7 @@ def main():
             if isinstance(row, str):
                 print(row, file=out)
                 print(row, file=told)
-            elif "later" not in row[1]:
+            else:
                 code, _, files = row
                 print("project " + "\\x1f".join(f"{path}={text}" for path, text in bare(files)).replace("\n", "\\n"), file=out)
                 print(answer(code, files), file=told)
