@@ -17,15 +17,15 @@ use Rattle.kotlin_tree.specs.declared.expressions.KSuperAt.{KSuperAt}
 use Rattle.kotlin_tree.specs.declared.expressions.KLambdaNames.{KLambdaNames}
 use Rattle.kotlin_tree.specs.declared.expressions.KChoice.{KChoice, roll-KChoice, map-KChoice, fold-roll-KChoice}
 use Rattle.kotlin_tree.specs.declared.expressions.KExpr.{KExpr, roll-KExpr, map-KExpr, fold-roll-KExpr}
-use Rattle.kotlin_tree.specs.declared.expressions.KExpr.TheOpen.{KExpr-F, KStmt-F, KChoice-F}
+use Rattle.kotlin_tree.specs.declared.expressions.KExpr.TheOpen.{KExpr-F, KStmt-F, KChoice-F, KBranch-F, KCatch-F}
 use Rattle.kotlin_tree.specs.declared.expressions.KExpr.TheVariants as e
 use Rattle.kotlin_tree.specs.declared.expressions.KExpr.TheViews.{roll-KStmt}
 use Rattle.kotlin_tree.specs.declared.statements.KDeclared.{KDeclared}
 use Rattle.kotlin_tree.specs.declared.statements.KLabel.{KLabel}
 use Rattle.kotlin_tree.specs.declared.statements.KTarget.{KTarget}
 use Rattle.kotlin_tree.specs.declared.statements.KFinallyAt.{KFinallyAt}
-use Rattle.kotlin_tree.specs.declared.statements.KBranch.{KBranch}
-use Rattle.kotlin_tree.specs.declared.statements.KCatch.{KCatch}
+use Rattle.kotlin_tree.specs.declared.statements.KBranch.{KBranch, roll-KBranch, map-KBranch, fold-roll-KBranch}
+use Rattle.kotlin_tree.specs.declared.statements.KCatch.{KCatch, roll-KCatch, map-KCatch, fold-roll-KCatch}
 use Rattle.kotlin_tree.specs.declared.statements.KStmt.{KStmt, map-KStmt, fold-roll-KStmt}
 use Rattle.kotlin_tree.specs.declared.statements.KStmt.TheVariants as s
 use Rattle.kotlin_typing.specs.declared.tables.KTables.{KTables}
@@ -47,6 +47,16 @@ module _ (w : KTables) where
       choice_form w (roll-KChoice x) ≡ choice_by (map-KChoice KExpr KStmt KChoice KBranch KCatch Form Line Choice Branch Catch (form w) (line w) (choice_form w) (branch_form w) (catch_form w) x)
   unfolding form line choice_form branch_form catch_form
   choice_at x = fold-roll-KChoice Form Line Choice Branch Catch (form_by w) (line_by w) choice_by branch_by (catch_by w) x
+
+  pub branch_at : (x : KBranch-F KExpr KStmt KChoice KBranch KCatch) →
+      branch_form w (roll-KBranch x) ≡ branch_by (map-KBranch KExpr KStmt KChoice KBranch KCatch Form Line Choice Branch Catch (form w) (line w) (choice_form w) (branch_form w) (catch_form w) x)
+  unfolding form line choice_form branch_form catch_form
+  branch_at x = fold-roll-KBranch Form Line Choice Branch Catch (form_by w) (line_by w) choice_by branch_by (catch_by w) x
+
+  pub catch_at : (x : KCatch-F KExpr KStmt KChoice KBranch KCatch) →
+      catch_form w (roll-KCatch x) ≡ catch_by w (map-KCatch KExpr KStmt KChoice KBranch KCatch Form Line Choice Branch Catch (form w) (line w) (choice_form w) (branch_form w) (catch_form w) x)
+  unfolding form line choice_form branch_form catch_form
+  catch_at x = fold-roll-KCatch Form Line Choice Branch Catch (form_by w) (line_by w) choice_by branch_by (catch_by w) x
 
   pub on_Literal : (x : KLiteral) (at : Position) → form w (e.Literal x at) ≡ form_by w (KExpr-F.Literal x at)
   on_Literal x at = ap (form w) (sym (e.rolls-Literal x at)) ∙ form_at (KExpr-F.Literal x at)

@@ -39,10 +39,10 @@ pub some_told : {A : Type 0} (o : Option A) → IsSome o → (a : A) × (o ≡ S
 some_told None h = cc
 some_told (Some a) h = (a, refl)
 
-some_same : {A : Type 0} (a b : A) → Some a ≡ Some b → a ≡ b
+pub some_same : {A : Type 0} (a b : A) → Some a ≡ Some b → a ≡ b
 some_same a b e = cc
 
-find_tells : {A : Type 0} (p : A → Bool) (xs : List A) (a : A) → find p xs ≡ Some a → p a ≡ true
+pub find_tells : {A : Type 0} (p : A → Bool) (xs : List A) (a : A) → find p xs ≡ Some a → p a ≡ true
 find_tells p [] a h = cc
 find_tells p (x ∷ xs) a h = by_first p x xs a (p x) refl h (find_tells p xs a)
   where
@@ -86,7 +86,7 @@ local_told s at (Some row) k h = (row, refl, some_same row.kind k h)
 
 -- ---- values in their places
 
-mismatch_told : (s : KScope) (at : Position) (b : Bool) → faults_in (mismatch s at b) ≡ [] → b ≡ true
+pub mismatch_told : (s : KScope) (at : Position) (b : Bool) → faults_in (mismatch s at b) ≡ [] → b ≡ true
 mismatch_told s at true h = refl
 mismatch_told s at false h = cc
 
@@ -196,7 +196,7 @@ module _ (w : KTables) where
 
 -- ---- members
 
-and_first : (a b : Bool) → (a && b) ≡ true → a ≡ true
+pub and_first : (a b : Bool) → (a && b) ≡ true → a ≡ true
 and_first true b h = refl
 and_first false b h = cc
 
@@ -208,7 +208,7 @@ property_told s at true (Some x) k h i = (refl, (x, refl, some_same x.kind k i))
 property_told s at false o k h i = cc
 
 module _ (w : KTables) where
-  each_told : (s : KScope) (xs : List KExpr) → faults_in (each (map (judged s) (map (form w) xs))).notes ≡ [] →
+  pub each_told : (s : KScope) (xs : List KExpr) → faults_in (each (map (judged s) (map (form w) xs))).notes ≡ [] →
       (ks : List KKind) × ((each (map (judged s) (map (form w) xs))).result ≡ Some ks) × AllHave w s xs ks
   each_told s [] h = ([], refl, tt)
   each_told s (x ∷ xs) h =
@@ -233,7 +233,7 @@ module _ (w : KTables) where
   picked_told s at true None k h = cc
   picked_told s at false None k h = cc
 
-  called_told : (s : KScope) (at : Position) (args : List KKind) (found : List KCallable) (k : KKind) → (t.called w s at args found).result ≡ Some k →
+  pub called_told : (s : KScope) (at : Position) (args : List KKind) (found : List KCallable) (k : KKind) → (t.called w s at args found).result ≡ Some k →
       (m : KCallable) × (chosen w args found ≡ Some m) × (m.result ≡ k)
   called_told s at args [] k h = cc
   called_told s at args (m ∷ more) k h = picked_told s at (none_applies w args (m ∷ more)) (chosen w args (m ∷ more)) k h

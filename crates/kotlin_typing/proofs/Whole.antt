@@ -131,7 +131,7 @@ module _ (w : KTables) where
   types_all [] path = tt
   types_all (x ∷ xs) path = (x.1 path, types_all xs path)
 
-  type_at : (x : KType-F KType) → written w (roll-KType x) ≡ wr.written_by w (map-KType KType (List ℕ → Typed KKind) (written w) x)
+  pub type_at : (x : KType-F KType) → written w (roll-KType x) ≡ wr.written_by w (map-KType KType (List ℕ → Typed KKind) (written w) x)
   unfolding written
   type_at x = fold-roll-KType (List ℕ → Typed KKind) (wr.written_by w) x
 
@@ -185,7 +185,7 @@ module _ (w : KTables) where
       by_given (Some x) = fine_good _
 
   constructed_whole : (s : KScope) (at : Position) (c : KClassRef) (types args : List KKind) → Fine (t.constructed w s at c types args)
-  constructed_whole s at c types args = fine_if (wr.fits_class w c types) _ _ (one_whole s at args _) (fine_faulty KKind s 3 at)
+  constructed_whole s at c types args = fine_if (t.is_abstract w c) _ _ (fine_faulty KKind s 8 at) (fine_if (wr.fits_class w c types) _ _ (one_whole s at args _) (fine_faulty KKind s 3 at))
 
   plain_call_whole : (s : KScope) (at : Position) (name : List ℕ) (types args : List KKind) (o : Option KClassRef) → Fine (t.plain_call w s at name types args o)
   plain_call_whole s at name types args (Some c) = constructed_whole s at c types args

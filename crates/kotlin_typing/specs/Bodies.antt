@@ -1,7 +1,6 @@
--- What is noted of members, of classes and of files. Definite assignment and the rules of declarations are handed in.
+-- What is noted of the members of a class.
 use Rattle.std.specs.Prelude.{◌≡◌, ℕ, Bool, true, false, if◌then◌else◌, List, [], ◌∷◌, ◌++◌, map, Option, Some, None, bytes_eq}
 use Rattle.std.specs.List.{list_any}
-use Rattle.judged.specs.Notes.{faults_in}
 use Rattle.judged.specs.Judged.{◌>>=◌}
 use Rattle.kotlin_tree.specs.declared.types.KType.{KType}
 use Rattle.kotlin_tree.specs.declared.statements.KBlock.{KBlock}
@@ -13,8 +12,6 @@ use Rattle.kotlin_tree.specs.declared.members.KCalled.TheVariants as called
 use Rattle.kotlin_tree.specs.declared.members.KDelegation.{KDelegation}
 use Rattle.kotlin_tree.specs.declared.members.KMember.{KMember, fold-KMember}
 use Rattle.kotlin_tree.specs.declared.members.KMember.TheOpen.{KMember-F}
-use Rattle.kotlin_tree.specs.declared.files.KClass.{KClass}
-use Rattle.kotlin_tree.specs.declared.files.KFile.{KFile}
 use Rattle.kotlin_types.specs.declared.kinds.KClassRef.{KClassRef}
 use Rattle.kotlin_types.specs.declared.kinds.KHead.{KHead}
 use Rattle.kotlin_types.specs.declared.kinds.KHead.TheVariants as head
@@ -108,13 +105,17 @@ abbrev pub initializer_part : Bool → KPart
 initializer_part true = part.CompanionInitializer
 initializer_part false = part.Initializer
 
--- in a companion or not, in the file of a path, in a class
+-- under tables, in a companion or not, in the file of a path, in a class
 abbrev pub MemberNotes : Type 0
-MemberNotes = Bool → List ℕ → KClassRef → Notes
+MemberNotes = KTables → Bool → List ℕ → KClassRef → Notes
 
-abbrev pub companion_notes : List MemberNotes → List ℕ → KClassRef → Notes
-companion_notes [] path own = []
-companion_notes (x ∷ xs) path own = x true path own ++ companion_notes xs path own
+abbrev pub companion_notes : List MemberNotes → KTables → List ℕ → KClassRef → Notes
+companion_notes [] w path own = []
+companion_notes (x ∷ xs) w path own = x w true path own ++ companion_notes xs w path own
+
+-- a companion is no part of an object: no type parameter of the class is named in it
+abbrev pub without_variables : KTables → KTables
+without_variables w = record w { variables = [] }
 
 abbrev pub function_notes : KTables → KScope → List KParam → Option KTyped → Option KBlock → Notes
 function_notes w s params result body = parameters_notes w s [] params ++ (result_notes w s result ++ block_notes w s body)
@@ -122,50 +123,20 @@ function_notes w s params result body = parameters_notes w s [] params ++ (resul
 abbrev pub constructor_notes : KTables → KScope → List KParam → Option KDelegation → KBlock → Notes
 constructor_notes w s params first body = parameters_notes w s [] params ++ (delegation_notes w s first ++ block_notes w s (Some body))
 
-abbrev pub member_by : KTables → KMember-F MemberNotes → MemberNotes
-member_by w (KMember-F.Commented comments x) in_companion path own = x in_companion path own
-member_by w (KMember-F.Property modifiers x value setter) in_companion path own =
+abbrev pub member_by : KMember-F MemberNotes → MemberNotes
+member_by (KMember-F.Commented comments x) w in_companion path own = x w in_companion path own
+member_by (KMember-F.Property modifiers x value setter) w in_companion path own =
     (written w x.kind path).notes ++ value_notes w (place path own (initializer_part in_companion) returns.Nowhere []) x.kind value
-member_by w (KMember-F.Init at body) in_companion path own = block_notes w (place path own (initializer_part in_companion) returns.Nowhere []) (Some body)
-member_by w (KMember-F.Function modifiers at x params result body) in_companion path own =
+member_by (KMember-F.Init at body) w in_companion path own = block_notes w (place path own (initializer_part in_companion) returns.Nowhere []) (Some body)
+member_by (KMember-F.Function modifiers at x params result body) w in_companion path own =
     function_notes w (place path own (function_part in_companion) (result_of w result) (parameters w params.items)) params.items result body
-member_by w (KMember-F.Constructor modifiers at params first body) in_companion path own =
+member_by (KMember-F.Constructor modifiers at params first body) w in_companion path own =
     constructor_notes w (place path own part.Constructor returns.NoValue (parameters w params.items)) params.items first body
-member_by w (KMember-F.Companion at members) in_companion path own = companion_notes members path own
+member_by (KMember-F.Companion at members) w in_companion path own = companion_notes members (without_variables w) path own
 
-unfoldable pub member_notes : KTables → KMember → MemberNotes
-member_notes w = fold-KMember MemberNotes (member_by w)
+unfoldable pub member_notes : KMember → MemberNotes
+member_notes = fold-KMember MemberNotes member_by
 
 abbrev pub members_notes : KTables → List KMember → List ℕ → KClassRef → Notes
 members_notes w [] path own = []
-members_notes w (x ∷ xs) path own = member_notes w x false path own ++ members_notes w xs path own
-
--- ---- files
-
--- What else is noted of a class: by definite assignment (K10 of what is stored to once, K11, K12), and by the rules of
--- declarations (K2 of members, K7, K8, K9, K14).
-pub record Rules : Type 0 where
-  pub flow : KTables → KFile → KClass → Notes
-  pub declarations : KTables → KFile → KClass → Notes
-
--- the tables that the text of a class sees, and the class's number
-pub record Project : Type 0 where
-  pub tables : KFile → KClass → KTables
-  pub class : KFile → KClass → KClassRef
-
-module _ (rules : Rules) (p : Project) where
-  abbrev pub class_notes : KFile → KClass → Notes
-  class_notes file x =
-      members_notes (p.tables file x) x.members file.path (p.class file x) ++ (rules.flow (p.tables file x) file x ++ rules.declarations (p.tables file x) file x)
-
-  abbrev pub classes_notes : KFile → List KClass → Notes
-  classes_notes file [] = []
-  classes_notes file (x ∷ xs) = class_notes file x ++ classes_notes file xs
-
-  abbrev pub files_notes : List KFile → Notes
-  files_notes [] = []
-  files_notes (x ∷ xs) = classes_notes x x.classes ++ files_notes xs
-
-  -- files are well typed where nothing is noted of them; their first fault is the first of the notes
-  abbrev pub AreWellTyped : List KFile → Type 0
-  AreWellTyped files = faults_in (files_notes files) ≡ []
+members_notes w (x ∷ xs) path own = member_notes x w false path own ++ members_notes w xs path own

@@ -227,8 +227,14 @@ sized name (x ∷ y ∷ xs) = None
 abbrev pub sizing : List ℕ → KKind → KCallable
 sizing name k = record { holder = holder.Path []; name = name; params = number kind.Int ∷ []; result = k; is_private = false }
 
+-- no instance is made of an abstract class or an interface (Kotlin specification, "Classifier declaration", "Abstract classes")
+abbrev pub is_abstract : KTables → KClassRef → Bool
+is_abstract w c = list_any (same_class c) w.abstracts
+
 abbrev pub constructed : KTables → KScope → Position → KClassRef → List KKind → List KKind → Typed KKind
-constructed w s at c types args = if fits_class w c types then one_of w s at args (constructors_of w s c types) else faulty s 3 at
+constructed w s at c types args =
+    if is_abstract w c then faulty s 8 at else
+    if fits_class w c types then one_of w s at args (constructors_of w s c types) else faulty s 3 at
 
 abbrev pub plain_call : KTables → KScope → Position → List ℕ → List KKind → List KKind → Option KClassRef → Typed KKind
 plain_call w s at name types args (Some c) = constructed w s at c types args

@@ -72,4 +72,6 @@ pub struct KTables {
     pub callables: Items<KCallable>,
     pub properties: Items<KProperty>,
     pub faces: Items<KFace>,
+    /// The classes of which no instance is made: abstract ones and interfaces.
+    pub abstracts: Items<KClassRef>,
 }
