@@ -1,0 +1,4 @@
+mod Named
+mod Found
+mod Apart
+pub mod LawsToCite

@@ -1,0 +1,5 @@
+pub mod Named
+pub mod Declared
+pub mod Members
+pub mod Tables
+pub mod Twice
