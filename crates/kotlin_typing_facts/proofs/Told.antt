@@ -1,7 +1,9 @@
 -- The parts of what has no fault, construct by construct.
 use Rattle.std.proofs.Common.{◌≡◌, ℕ, Bool, true, false, List, [], ◌∷◌, ◌++◌, map, Option, Some, None, refl, sym, ap, subst, ◌∙◌}
 use Rattle.std.specs.Prelude.{◌&&◌, if◌then◌else◌}
+use Rattle.j2k_base.specs.declared.places.Fault.{Fault}
 use Rattle.judged.specs.Notes.{faults_in}
+use Rattle.judged.proofs.LawsToCite.{faults_in-append}
 use Rattle.judged.specs.Judged.{after, both, pair, ◌>>=◌}
 use Rattle.kotlin_tree.specs.declared.places.Position.{Position}
 use Rattle.kotlin_tree.specs.declared.places.Brackets.{Brackets}
@@ -33,7 +35,7 @@ use Rattle.kotlin_typing.specs.Scopes.{has_this, in_loop, in_run, lambda_around,
 use Rattle.kotlin_typing.specs.Written.{Path, arguments_written, class_at, fits_class}
 use Rattle.kotlin_typing.specs.Members.{callables_above, callables_behind, chosen, constructors_of, is_applicable, is_chosen, is_most_specific, none_applies}
 use Rattle.kotlin_typing.specs.Operators.{binary_kind, either_kind}
-use Rattle.kotlin_typing.specs.Forms.{Form, Line, as_wanted, behind, kind_or, lines_notes, twice_named}
+use Rattle.kotlin_typing.specs.Forms.{Form, Line, Stored, as_wanted, behind, kind_or, lines_notes, twice_named}
 use Rattle.kotlin_typing.specs.Typing as t
 use Rattle.kotlin_typing.specs.Typing.{catch_form, form, line}
 use Rattle.kotlin_typing.specs.Premises.{AllHave, AreTyped, HasType, IsPlaced, IsSureValue, IsTyped, IsTypedStatement}
@@ -320,3 +322,22 @@ module _ (w : KTables) (s : KScope) where
 
   pub same_told : (x : KExpr) (k : KKind) → HasType w s x k → ((form w x).judge s).result ≡ Some k
   same_told x k h = h.is
+
+  -- ---- null
+
+  null_step : (at : Position) (ns : Notes) (b : Bool) (o : Option Stored) → b ≡ false → faults_in ns ≡ [] →
+      faults_in ((ns ++ (if b then kind_or s 1 at o else faulty s 4 at).notes) ++ (after (if b then kind_or s 1 at o else faulty s 4 at).result t.kind_of).notes) ≡ faults_in (fault s 4 at)
+  null_step at ns true o e h = cc
+  null_step at ns false o e h =
+      faults_in-append (ns ++ fault s 4 at) []
+      ∙ (ap (λ (z : List Fault). z ++ []) (faults_in-append ns (fault s 4 at)) ∙ ap (λ (z : List Fault). (z ++ faults_in (fault s 4 at)) ++ []) h)
+
+  pub null_told : (x : KExpr) (dot : Position) (n : KName) (k : KKind) → t.static w s (form w x).path ≡ None → HasType w s x k → is_sure k ≡ false →
+      faults_in ((form w (e.Field x dot n)).judge s).notes ≡ faults_in (fault s 4 (form w x).first)
+  null_told x dot n k none h unsure =
+      let j = (form w x).judge s in
+      let pin = t.property_in w s (form w x).first (form w x).is_this n.name in
+      ap (λ (f : Form). faults_in (f.judge s).notes) (q.on_Field w x dot n)
+      ∙ (ap (λ (o : Option Path). faults_in (t.field_by w s (form w x) n.name o >>= t.kind_of).notes) none
+      ∙ (ap (λ (o : Option KKind). faults_in ((j.notes ++ (after o pin).notes) ++ (after (after o pin).result t.kind_of).notes)) h.is
+      ∙ null_step (form w x).first j.notes (is_sure k) (t.property_of w s (form w x).is_this n.name k) unsure h.clean))

@@ -1,6 +1,6 @@
 //! What is known of the parts of a well typed one.
 
-ghost use Rattle.std.specs.Prelude.{◌≡◌, ◌∷◌, [], List, Option, None, Some, map};
+ghost use Rattle.std.specs.Prelude.{◌≡◌, false, ◌∷◌, [], List, Option, None, Some, map};
 ghost use Rattle.judged.specs.Notes.{faults_in};
 ghost use Rattle.kotlin_tree.specs.declared.places.Position.{Position};
 ghost use Rattle.kotlin_tree.specs.declared.places.Brackets.{Brackets};
@@ -23,9 +23,10 @@ ghost use Rattle.kotlin_tree.specs.declared.statements.KStmt.{KStmt};
 ghost use Rattle.kotlin_tree.specs.declared.statements.KStmt.TheVariants as st;
 ghost use Rattle.kotlin_types.specs.declared.kinds.KClassRef.{KClassRef};
 ghost use Rattle.kotlin_types.specs.declared.kinds.KKind.{KKind};
-ghost use Rattle.kotlin_types.specs.Types.{boolean, not_null};
+ghost use Rattle.kotlin_types.specs.Types.{boolean, is_sure, not_null};
 ghost use Rattle.kotlin_typing.specs.declared.scope.KScope.{KScope};
 ghost use Rattle.kotlin_typing.specs.declared.tables.KTables.{KTables};
+ghost use Rattle.kotlin_typing.specs.Notes.{fault};
 ghost use Rattle.kotlin_typing.specs.Scopes.{in_loop, in_run, past, with_parameter};
 ghost use Rattle.kotlin_typing.specs.Written.{Path, arguments_written, class_at};
 ghost use Rattle.kotlin_typing.specs.Members.{callables_above, callables_behind};
@@ -74,4 +75,9 @@ pub fn blocks_are_typed()
 /// `return` gives a value below what its function or lambda gives, and leaves a lambda by the name of its interface alone.
 pub fn returns_are_given()
     ensures { (w : KTables) (s : KScope) (at : Position) (target : Option KTarget) (x : KExpr) → IsTypedStatement w s (st.Give at target x) → IsGiven w s (target_of target) x }
+{}
+
+/// A property of what may be null is K4 at the first token, and no other fault.
+pub fn nulls_are_noted()
+    ensures { (w : KTables) (s : KScope) (x : KExpr) (dot : Position) (n : KName) (k : KKind) → static w s (form w x).path ≡ None → HasType w s x k → is_sure k ≡ false → faults_in ((form w (e.Field x dot n)).judge s).notes ≡ faults_in (fault s 4 (form w x).first) }
 {}
