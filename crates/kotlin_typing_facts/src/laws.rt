@@ -9,6 +9,8 @@ ghost use Rattle.kotlin_tree.specs.declared.types.KType.{KType};
 ghost use Rattle.kotlin_tree.specs.declared.types.KTypeArguments.{KTypeArguments};
 ghost use Rattle.kotlin_tree.specs.declared.expressions.KHeadAt.{KHeadAt};
 ghost use Rattle.kotlin_tree.specs.declared.expressions.KElseAt.{KElseAt};
+ghost use Rattle.kotlin_tree.specs.declared.expressions.KChoice.{KChoice};
+ghost use Rattle.kotlin_tree.specs.declared.expressions.KLambdaNames.{KLambdaNames};
 ghost use Rattle.kotlin_tree.specs.declared.expressions.KSuperAt.{KSuperAt};
 ghost use Rattle.kotlin_tree.specs.declared.expressions.KPostfix.TheVariants as postfix;
 ghost use Rattle.kotlin_tree.specs.declared.expressions.KBinary.{KBinary};
@@ -28,12 +30,12 @@ ghost use Rattle.kotlin_typing.specs.declared.scope.KScope.{KScope};
 ghost use Rattle.kotlin_typing.specs.declared.tables.KTables.{KTables};
 ghost use Rattle.kotlin_typing.specs.Notes.{fault};
 ghost use Rattle.kotlin_typing.specs.Scopes.{in_loop, in_run, past, with_parameter};
-ghost use Rattle.kotlin_typing.specs.Written.{Path, arguments_written, class_at};
+ghost use Rattle.kotlin_typing.specs.Written.{Path, arguments_written, class_at, written};
 ghost use Rattle.kotlin_typing.specs.Members.{callables_above, callables_behind};
 ghost use Rattle.kotlin_typing.specs.Operators.{binary_kind, either_kind};
 ghost use Rattle.kotlin_typing.specs.Typing.{elements_of, form, label_of, past_left, sized, static, target_of, this_type};
 ghost use Rattle.kotlin_typing.specs.Premises.{AreTyped, HasType, IsPlaced, IsTypedStatement};
-ghost use Rattle.kotlin_typing_facts.specs.Facts.{AreCaught, AreLabels, IsChosen, IsGiven, IsMade, IsWalked, int, type_of};
+ghost use Rattle.kotlin_typing_facts.specs.Facts.{AreBranches, AreCaught, IsCast, IsChoice, IsChosen, IsGiven, IsLambda, IsLeft, IsMade, IsWalked, int, type_of};
 
 /// The type that a part is asked for as the program runs is the one that the checker gives, and there is no other.
 pub fn types_are_unique()
@@ -70,6 +72,30 @@ pub fn blocks_are_typed()
     ensures tried { (w : KTables) (s : KScope) (at : Position) (curly : Brackets) (xs : List KStmt) (catches : List KCatch) → IsTypedStatement w s (st.Try at curly xs catches) → AreTyped w s xs × AreCaught w s catches }
     ensures at_last { (w : KTables) (s : KScope) (at : Position) (curly : Brackets) (xs : List KStmt) (catches : List KCatch) (last_at : KFinallyAt) (ys : List KStmt) → IsTypedStatement w s (st.TryFinally at curly xs catches last_at ys) → AreTyped w s xs × AreCaught w s catches × AreTyped w s ys }
     ensures run { (w : KTables) (s : KScope) (at : Position) (curly : Brackets) (xs : List KStmt) (k : KKind) → HasType w s (e.Run at curly xs) k → AreTyped w (in_run s) xs }
+{}
+
+/// The labels of a `when` have the type of its subject but for the `?`; its statements are typed at their places, and its values have
+/// one type above them all.
+pub fn alternatives_are_typed()
+    ensures statements { (w : KTables) (s : KScope) (at : KHeadAt) (x : KExpr) (curly : Brackets) (branches : List KBranch) (else_at : KElseAt) (other : Brackets) (ys : List KStmt) → IsTypedStatement w s (st.When at x curly branches else_at other ys) → (k : KKind) × HasType w s x k × AreBranches w s branches k × AreTyped w s ys }
+    ensures value { (w : KTables) (s : KScope) (at : KHeadAt) (x : KExpr) (curly : Brackets) (choices : List KChoice) (else_at : KElseAt) (y : KExpr) (k : KKind) → HasType w s (e.WhenValue at x curly choices else_at y) k → IsChoice w s x choices y k }
+{}
+
+/// The body of a lambda stands within it, with the parameters of the one method of its interface, and `return` in it gives what that
+/// method gives.
+pub fn lambdas_are_typed()
+    ensures { (w : KTables) (s : KScope) (face : KType) (curly : Brackets) (names : KLambdaNames) (xs : List KStmt) (k : KKind) → HasType w s (e.Lambda face curly names xs) k → IsLambda w s face names.items xs k }
+{}
+
+/// `as` gives the type that is written, which takes null where its value may be null; `is` is a truth value.
+pub fn casts_are_typed()
+    ensures cast { (w : KTables) (s : KScope) (x : KExpr) (at : Position) (to : KType) (k : KKind) → HasType w s (e.As x at to) k → IsCast w s x to k }
+    ensures test { (w : KTables) (s : KScope) (x : KExpr) (at : Position) (to : KType) (k : KKind) → HasType w s (e.Is x at to) k → (i : KKind) × (j : KKind) × HasType w s x i × ((written w to s.path).result ≡ Some j) × (boolean ≡ k) }
+{}
+
+/// `return` without a value stands where none is to be given, or leaves a `synchronized`.
+pub fn returns_leave()
+    ensures { (w : KTables) (s : KScope) (at : Position) (target : Option KTarget) → IsTypedStatement w s (st.Return at target) → IsLeft w s (target_of target) }
 {}
 
 /// `return` gives a value below what its function or lambda gives, and leaves a lambda by the name of its interface alone.
