@@ -1,5 +1,5 @@
 -- The parts of what has no fault: alternatives of a `when`, lambdas, casts and tests, `return` without a value.
-use Rattle.std.proofs.Common.{◌≡◌, ◌⊎◌, inl, inr, ℕ, Bool, true, false, List, [], ◌∷◌, ◌++◌, map, Option, Some, None, refl, sym, ap, subst, ◌∙◌}
+use Rattle.std.proofs.Common.{◌≡◌, inl, inr, ℕ, Bool, true, false, List, [], ◌∷◌, ◌++◌, map, Option, Some, None, refl, ap, subst, ◌∙◌}
 use Rattle.std.specs.Prelude.{if◌then◌else◌}
 use Rattle.judged.specs.Notes.{faults_in}
 use Rattle.judged.specs.Judged.{after, both, each, pair, ◌>>=◌}
@@ -32,7 +32,7 @@ use Rattle.kotlin_typing.specs.Operators.{given_where}
 use Rattle.kotlin_typing.specs.Forms.{Branch, Catch, Choice, Form, Line, judged, kind_or, lines_notes}
 use Rattle.kotlin_typing.specs.Typing as t
 use Rattle.kotlin_typing.specs.Typing.{branch_by, branch_form, catch_by, catch_form, choice_by, choice_form, form, form_by, line, line_by}
-use Rattle.kotlin_typing.specs.Premises.{AllHave, AreTyped, HasType, IsTypedStatement}
+use Rattle.kotlin_typing.specs.Premises.{AreTyped, HasType, IsTypedStatement}
 use Rattle.kotlin_typing.proofs.LawsToCite as q
 use Rattle.kotlin_typing.proofs.LawsToCite.{clean_left, clean_right, each_told, has_type, some_same}
 use Rattle.kotlin_typing_facts.specs.Facts.{AreBranches, AreLabels, HaveLabels, IsCast, IsChoice, IsLambda, IsLeft, branch_labels, branch_statements, choice_labels, choice_value}

@@ -1,6 +1,6 @@
 -- The parts of what has no fault, construct by construct.
 use Rattle.std.proofs.Common.{◌≡◌, ℕ, Bool, true, false, List, [], ◌∷◌, ◌++◌, map, Option, Some, None, refl, sym, ap, subst, ◌∙◌}
-use Rattle.std.specs.Prelude.{◌&&◌, if◌then◌else◌}
+use Rattle.std.specs.Prelude.{if◌then◌else◌}
 use Rattle.j2k_base.specs.declared.places.Fault.{Fault}
 use Rattle.judged.specs.Notes.{faults_in}
 use Rattle.judged.proofs.LawsToCite.{faults_in-append}
@@ -24,7 +24,6 @@ use Rattle.kotlin_tree.specs.declared.statements.KStmt.TheVariants as st
 use Rattle.kotlin_types.specs.declared.kinds.KClassRef.{KClassRef}
 use Rattle.kotlin_types.specs.declared.kinds.KKind.{KKind}
 use Rattle.kotlin_types.specs.Types.{boolean, is_sure, not_null}
-use Rattle.kotlin_types.specs.Supertypes.{is_subtype}
 use Rattle.kotlin_typing.specs.declared.scope.KReturns.{KReturns}
 use Rattle.kotlin_typing.specs.declared.scope.KReturns.TheVariants as returns
 use Rattle.kotlin_typing.specs.declared.scope.KScope.{KScope}
@@ -35,10 +34,10 @@ use Rattle.kotlin_typing.specs.Scopes.{has_this, in_loop, in_run, lambda_around,
 use Rattle.kotlin_typing.specs.Written.{Path, arguments_written, class_at, fits_class}
 use Rattle.kotlin_typing.specs.Members.{callables_above, callables_behind, chosen, constructors_of, is_applicable, is_chosen, is_most_specific, none_applies}
 use Rattle.kotlin_typing.specs.Operators.{binary_kind, either_kind}
-use Rattle.kotlin_typing.specs.Forms.{Form, Line, Stored, as_wanted, behind, kind_or, lines_notes, twice_named}
+use Rattle.kotlin_typing.specs.Forms.{Form, Line, Stored, as_wanted, kind_or, lines_notes, twice_named}
 use Rattle.kotlin_typing.specs.Typing as t
 use Rattle.kotlin_typing.specs.Typing.{catch_form, form, line}
-use Rattle.kotlin_typing.specs.Premises.{AllHave, AreTyped, HasType, IsPlaced, IsSureValue, IsTyped, IsTypedStatement}
+use Rattle.kotlin_typing.specs.Premises.{AllHave, AreTyped, HasType, IsPlaced, IsTypedStatement}
 use Rattle.kotlin_typing.proofs.LawsToCite as q
 use Rattle.kotlin_typing.proofs.LawsToCite.{and_first, clean_left, clean_right, each_told, find_tells, has_type, placed, some_same}
 use Rattle.kotlin_typing_facts.specs.Facts.{AreCaught, IsChosen, IsGiven, IsMade, IsWalked, int}

@@ -1,5 +1,5 @@
 -- What is known of the parts of a well typed one: calls, choices, lambdas, loops, `try` and what `return` gives.
-use Rattle.std.specs.Prelude.{◌≡◌, ◌⊎◌, ℕ, true, false, List, [], ◌∷◌, ◌++◌, map, Option, Some, None, bytes_eq}
+use Rattle.std.specs.Prelude.{◌≡◌, ◌⊎◌, ℕ, true, false, List, [], ◌∷◌, ◌++◌, map, Option, Some}
 use Rattle.judged.specs.Notes.{faults_in}
 use Rattle.j2k_base.specs.declared.constants.Kind.TheVariants as kind
 use Rattle.kotlin_tree.specs.declared.types.KName.{KName}
@@ -18,10 +18,9 @@ use Rattle.kotlin_typing.specs.declared.scope.KScope.{KScope}
 use Rattle.kotlin_typing.specs.declared.tables.KCallable.{KCallable}
 use Rattle.kotlin_typing.specs.declared.tables.KFace.{KFace}
 use Rattle.kotlin_typing.specs.declared.tables.KTables.{KTables}
-use Rattle.kotlin_typing.specs.Scopes.{in_lambda, lambda_around, past}
+use Rattle.kotlin_typing.specs.Scopes.{in_lambda, lambda_around}
 use Rattle.kotlin_typing.specs.Written.{fits_class, written}
 use Rattle.kotlin_typing.specs.Members.{all_below, chosen, constructors_of}
-use Rattle.kotlin_typing.specs.Forms.{lines_notes}
 use Rattle.kotlin_typing.specs.Typing.{all_either, catch_form, face_of, form, is_abstract, is_null_taken, lambda_rows, leaves_lock, returned, returns_from, type_place, walked}
 use Rattle.kotlin_typing.specs.Premises.{AllHave, AreTyped, HasType, IsPlaced, IsSureValue}
 
