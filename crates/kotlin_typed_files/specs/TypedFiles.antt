@@ -4,7 +4,6 @@ use Rattle.std.specs.Prelude.{◌≡◌, ℕ, List, [], ◌∷◌, ◌++◌}
 use Rattle.j2k_base.specs.declared.places.Fault.{Fault}
 use Rattle.judged.specs.Notes.{IsFirst, faults_in}
 use Rattle.kotlin_tree.specs.declared.files.KFile.{KFile}
-use Rattle.kotlin_tree.specs.declared.files.KClass.{KClass}
 use Rattle.kotlin_flow.specs.Faults.{AssignedAgain, FlowCode, FlowFault, Missing, NotAssigned}
 use Rattle.kotlin_flow.specs.Files.{class_faults}
 use Rattle.kotlin_typing.specs.Notes.{Notes, noted}
