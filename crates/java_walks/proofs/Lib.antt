@@ -1,1 +1,3 @@
 pub mod LawsToCite
+mod Nodes
+mod Statements

@@ -1,2 +1,6 @@
 //! What is told of all parts of Java's typed trees: of expressions, of statements, of classes.
 #![tactic(auto)]
+
+mod laws;
+
+pub use laws::{walks_see_all_nodes, walks_see_all_statements};
