@@ -1,5 +1,5 @@
 -- The classes that have members: those of the project by their numbers, and behind them those of the library.
-use Rattle.std.specs.Prelude.{ℕ, ◌+◌, ◌<◌, Bool, true, false, List, [], ◌∷◌, ◌++◌, map, length, Option, Some, None, slice_get}
+use Rattle.std.specs.Prelude.{ℕ, ◌+◌, Bool, true, false, List, [], ◌∷◌, ◌++◌, map, length, Option, Some, None, slice_get}
 use Rattle.java_member_grammar.specs.declared.heads.JTypeHead.{JTypeHead}
 use Rattle.java_member_grammar.specs.declared.heads.JTypeHead.TheVariants as head
 use Rattle.java_unit_grammar.specs.declared.statements.JBody.{JBody}
@@ -60,24 +60,3 @@ module _ (headings : List Heading) where
 
   abbrev pub class_table : List JUnit → List Class
   class_table units = with_units [] units ++ library_classes (length headings)
-
--- ---- members that can be numbered
-
-abbrev pub AreNumbered : List JMember → Bool → Type 0
-AreNumbered xs is_interface = (length (fields is_interface xs) < 4294967296) × (length (methods is_interface xs) < 4294967296)
-
-abbrev pub IsNumberedBy : JMember-F JBody JMember JStatement JCase JCaseGroup JCatch → Type 0
-IsNumberedBy (JMember-F.Type head left constants bodies members right) = AreNumbered members (is_interface head)
-IsNumberedBy _ = Unit {0}
-
-unfoldable pub IsNumbered : JMember → Type 0
-IsNumbered x = IsNumberedBy (out-JMember x)
-
-abbrev pub TypesAreNumbered : List JMember → Type 0
-TypesAreNumbered [] = Unit {0}
-TypesAreNumbered (x ∷ xs) = IsNumbered x × TypesAreNumbered xs
-
--- each class has fewer than 2^32 fields, and fewer than 2^32 methods
-abbrev pub UnitsAreNumbered : List JUnit → Type 0
-UnitsAreNumbered [] = Unit {0}
-UnitsAreNumbered (x ∷ xs) = TypesAreNumbered x.types × UnitsAreNumbered xs

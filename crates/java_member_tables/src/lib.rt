@@ -5,4 +5,4 @@ mod library;
 mod members;
 mod tables;
 
-pub use tables::{are_numbered, class_table, number_of};
+pub use tables::{class_table, number_of};

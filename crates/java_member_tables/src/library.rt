@@ -164,7 +164,6 @@ fn above_of(alloc: Global, count: usize, row: &ClassRow) -> Result<Items<usize>,
     Ok(out)
 }
 
-#[tactic(auto, using(crate::proofs::Few::few_fields))]
 fn library_fields(alloc: Global, number: u8) -> Result<Declared, NoMemory>
     requires { number < length members }
     ensures { IfOk result (λ out. out ≡ s.fields number (s.rows_of number)) }

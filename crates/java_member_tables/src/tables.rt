@@ -1,5 +1,5 @@
 // The classes of a project and of the library.
-ghost use Rattle.std.specs.Prelude.{◌≡◌, ◌<◌, ◌++◌, ◌∷◌, [], true, map, length, slice_get, IfOk};
+ghost use Rattle.std.specs.Prelude.{◌≡◌, ◌<◌, ◌++◌, ◌∷◌, [], map, length, slice_get, IfOk};
 ghost use Rattle.std.specs.Option.{option_copied};
 ghost use Rattle.java_classes.specs.Classes.{package_name};
 ghost use Rattle.java_member_tables.specs.Members as m;
@@ -69,7 +69,6 @@ fn above_at(alloc: Global, headings: &[Heading], number: usize) -> Result<Items<
 }
 
 fn fields_of(alloc: Global, is_interface: bool, xs: &[JMember]) -> Result<Declared, NoMemory>
-    requires { length (m.fields is_interface xs.now) < 4294967296 }
     ensures { IfOk result (λ out. out ≡ m.fields is_interface xs.now) }
 {
     let mut fields = Items::new(alloc);
@@ -78,7 +77,6 @@ fn fields_of(alloc: Global, is_interface: bool, xs: &[JMember]) -> Result<Declar
 }
 
 fn methods_of(alloc: Global, is_interface: bool, xs: &[JMember]) -> Result<Declared, NoMemory>
-    requires { length (m.methods is_interface xs.now) < 4294967296 }
     ensures { IfOk result (λ out. out ≡ m.methods is_interface xs.now) }
 {
     let mut methods = Items::new(alloc);
@@ -93,7 +91,6 @@ fn built(
     above: Items<usize>,
     xs: &[JMember],
 ) -> Result<Class, NoMemory>
-    requires { s.AreNumbered xs.now is_interface }
     ensures { IfOk result (λ class. class ≡ record { home = home.now; is_interface = is_interface; above = above; fields = m.fields is_interface xs.now; methods = m.methods is_interface xs.now }) }
 {
     let home = Text::from_str(alloc, home.as_str())?;
@@ -116,7 +113,6 @@ fn class(
     is_interface: bool,
     xs: &[JMember],
 ) -> Result<Class, NoMemory>
-    requires { s.AreNumbered xs.now is_interface }
     ensures { IfOk result (λ class. class ≡ s.class headings.now number home.now is_interface xs.now) }
 {
     let above = above_at(alloc, headings, number)?;
@@ -131,7 +127,6 @@ fn push_class(
     is_interface: bool,
     xs: &[JMember],
 ) -> Result<(), NoMemory>
-    requires { s.AreNumbered xs.now is_interface }
     ensures { IfOk result (λ u. table.new ≡ table.old ++ (s.class headings.now (length table.old) home.now is_interface xs.now ∷ [])) }
 {
     let number = table.len();
@@ -140,7 +135,7 @@ fn push_class(
 }
 
 /// A type, or a `;`.
-#[tactic(auto, unfolding(crate::specs::Tables::with_type, crate::specs::Tables::IsNumbered))]
+#[tactic(auto, unfolding(crate::specs::Tables::with_type))]
 fn push_type(
     alloc: Global,
     table: &mut Items<Class>,
@@ -148,7 +143,6 @@ fn push_type(
     home: &Text,
     x: &JMember,
 ) -> Result<(), NoMemory>
-    requires { s.IsNumbered x.now }
     ensures { IfOk result (λ u. table.new ≡ s.with_type headings.now home.now table.old x.now) }
 {
     match x {
@@ -171,13 +165,10 @@ fn push_types(
     home: &Text,
     xs: &[JMember],
 ) -> Result<(), NoMemory>
-    requires { s.TypesAreNumbered xs.now }
     ensures { IfOk result (λ u. table.new ≡ s.with_types headings.now home.now table.old xs.now) }
 {
-    let mut rest = xs;
-    while let [x, more @ ..] = rest {
+    for x in xs {
         push_type(alloc, table, headings, home, x)?;
-        rest = more;
     }
     Ok(())
 }
@@ -188,7 +179,6 @@ fn push_unit(
     headings: &[Heading],
     x: &JUnit,
 ) -> Result<(), NoMemory>
-    requires { s.TypesAreNumbered x.now.types }
     ensures { IfOk result (λ u. table.new ≡ s.with_types headings.now (package_name x.now.package) table.old x.now.types) }
 {
     let home = package_name(alloc, &x.package)?;
@@ -201,13 +191,10 @@ fn push_units(
     headings: &[Heading],
     units: &[JUnit],
 ) -> Result<(), NoMemory>
-    requires { s.UnitsAreNumbered units.now }
     ensures { IfOk result (λ u. table.new ≡ s.with_units headings.now table.old units.now) }
 {
-    let mut rest = units;
-    while let [x, more @ ..] = rest {
+    for x in units {
         push_unit(alloc, table, headings, x)?;
-        rest = more;
     }
     Ok(())
 }
@@ -219,60 +206,10 @@ pub fn class_table(
     headings: &[Heading],
     units: &[JUnit],
 ) -> Result<Items<Class>, NoMemory>
-    requires { s.UnitsAreNumbered units.now }
     ensures { IfOk result (λ table. table ≡ s.class_table headings.now units.now) }
 {
     let mut table = Items::new(alloc);
     push_units(alloc, &mut table, headings, units)?;
     push_library(alloc, &mut table, headings.len())?;
     Ok(table)
-}
-
-fn has_few(alloc: Global, is_interface: bool, xs: &[JMember]) -> Result<bool, NoMemory>
-    ensures { IfOk result (λ is. is ≡ true → s.AreNumbered xs.now is_interface) }
-{
-    let mut fields = Items::new(alloc);
-    push_fields(alloc, &mut fields, is_interface, xs)?;
-    let mut methods = Items::new(alloc);
-    push_methods(alloc, &mut methods, is_interface, xs)?;
-    Ok(fields.len() < 4294967296 && methods.len() < 4294967296)
-}
-
-#[tactic(auto, unfolding(crate::specs::Tables::IsNumbered))]
-fn is_numbered(alloc: Global, x: &JMember) -> Result<bool, NoMemory>
-    ensures { IfOk result (λ is. is ≡ true → s.IsNumbered x.now) }
-{
-    match x {
-        JMember::Type(head, _, _, _, members, _) => {
-            has_few(alloc, is_interface(head), members.as_slice())
-        }
-        _ => Ok(true),
-    }
-}
-
-fn types_are_numbered(alloc: Global, xs: &[JMember]) -> Result<bool, NoMemory>
-    ensures { IfOk result (λ are. are ≡ true → s.TypesAreNumbered xs.now) }
-{
-    let mut rest = xs;
-    while let [x, more @ ..] = rest {
-        if !is_numbered(alloc, x)? {
-            return Ok(false);
-        }
-        rest = more;
-    }
-    Ok(true)
-}
-
-/// Whether each class has fewer than 2^32 fields, and fewer than 2^32 methods.
-pub fn are_numbered(alloc: Global, units: &[JUnit]) -> Result<bool, NoMemory>
-    ensures { IfOk result (λ are. are ≡ true → s.UnitsAreNumbered units.now) }
-{
-    let mut rest = units;
-    while let [x, more @ ..] = rest {
-        if !types_are_numbered(alloc, x.types.as_slice())? {
-            return Ok(false);
-        }
-        rest = more;
-    }
-    Ok(true)
 }

@@ -1,5 +1,5 @@
 // What classes declare.
-ghost use Rattle.std.specs.Prelude.{◌≡◌, ◌<◌, length, IfOk};
+ghost use Rattle.std.specs.Prelude.{◌≡◌, IfOk};
 ghost use Rattle.std.specs.List.{list_any};
 ghost use Rattle.std.specs.Option.{option_copied};
 ghost use Rattle.java_tables.specs.Names.{numbers_of};
@@ -52,21 +52,17 @@ impl Model for Declared {
 }
 
 fn numbered(alloc: Global, members: &[Member]) -> Result<Vec<NamedRow>, NoMemory>
-    requires { length members.now < 4294967296 }
     ensures { IfOk result (λ rows. rows.items ≡ n.numbered 0 members.now) }
 {
     let mut out = Vec::new(alloc);
     for (number, member) in members.iter().enumerate() {
         let name = Name::from_str(alloc, member.name.as_str())?;
-        out.push(NamedRow {
-            name,
-            number: number as u32,
-        })?;
+        out.push(NamedRow { name, number })?;
     }
     Ok(out)
 }
 
-fn is_nil(numbers: &[u32]) -> bool
+fn is_nil(numbers: &[usize]) -> bool
     ensures { result ≡ l.is_nil numbers.now }
 {
     match numbers {
@@ -76,9 +72,8 @@ fn is_nil(numbers: &[u32]) -> bool
 }
 
 impl Declared {
-    /// The members of a class, which are fewer than 2^32.
+    /// The members of a class.
     pub fn new(alloc: Global, members: Items<Member>) -> Result<Declared, NoMemory>
-        requires { length members < 4294967296 }
         ensures { IfOk result (λ declared. declared ≡ members) }
     {
         let rows = numbered(alloc, members.as_slice())?;
@@ -87,7 +82,7 @@ impl Declared {
     }
 
     /// The numbers of the members of a name.
-    pub(crate) fn numbers(&self, name: &str) -> &[u32]
+    pub(crate) fn numbers(&self, name: &str) -> &[usize]
         ensures { result.now ≡ numbers_of name.now (n.numbered 0 self.now) }
     {
         self.by_name.named(name)

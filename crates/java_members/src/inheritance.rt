@@ -88,7 +88,7 @@ fn push_number(
     out: &mut Vec<Found>,
     class: usize,
     members: &[Member],
-    number: u32,
+    number: usize,
 ) -> Result<(), NoMemory>
     ensures { IfOk result (λ u. out.new.items ≡ out.old.items ++ map (s.found class) (n.if_there (slice_get members.now number))) }
 {
@@ -101,7 +101,7 @@ fn push_passing_number(
     r: Reached,
     class: &Class,
     members: &[Member],
-    number: u32,
+    number: usize,
 ) -> Result<(), NoMemory>
     ensures { IfOk result (λ u. out.new.items ≡ out.old.items ++ map (s.found r.class) (filter (s.passes sort r.is_near class.now) (n.if_there (slice_get members.now number)))) }
 {
@@ -113,7 +113,7 @@ fn push_declared(
     out: &mut Vec<Found>,
     number: usize,
     members: &[Member],
-    numbers: &[u32],
+    numbers: &[usize],
 ) -> Result<(), NoMemory>
     ensures { IfOk result (λ u. out.new.items ≡ out.old.items ++ map (s.found number) (n.picked members.now numbers.now)) }
 {
@@ -130,7 +130,7 @@ fn push_inherited_of(
     r: Reached,
     class: &Class,
     members: &[Member],
-    numbers: &[u32],
+    numbers: &[usize],
 ) -> Result<(), NoMemory>
     ensures { IfOk result (λ u. out.new.items ≡ out.old.items ++ map (s.found r.class) (filter (s.passes sort r.is_near class.now) (n.picked members.now numbers.now))) }
 {

@@ -10,13 +10,13 @@ use std::collections::HashMap;
 #[derive(Drop)]
 pub struct NamedRow {
     pub name: Name,
-    pub number: u32,
+    pub number: usize,
 }
 
 /// The numbers of rows by their names, as the members of a class.
 #[derive(Drop)]
 pub struct Groups {
-    pub by_name: HashMap<String, Vec<u32>>,
+    pub by_name: HashMap<String, Vec<usize>>,
 }
 
 /// The rows by their names: beside each name the numbers of its rows, in the order of the rows. It takes time in proportion to
@@ -24,7 +24,7 @@ pub struct Groups {
 pub fn group(alloc: Global, rows: &[NamedRow]) -> Result<Groups, NoMemory>
     ensures { IfOk result (λ groups. (name : List ℕ) → s.grouped groups name ≡ s.numbers_of name rows.now) }
 {
-    let mut by_name: HashMap<String, Vec<u32>> = HashMap::new(alloc);
+    let mut by_name: HashMap<String, Vec<usize>> = HashMap::new(alloc);
     for row in rows {
         let key = String::from_str(alloc, row.name.as_str())?;
         by_name.entry(key)?.or_default().push(row.number)?;
@@ -34,7 +34,7 @@ pub fn group(alloc: Global, rows: &[NamedRow]) -> Result<Groups, NoMemory>
 
 impl Groups {
     /// The numbers of the rows of a name, none where no row has it. It takes no memory.
-    pub fn named(&self, name: &str) -> &[u32]
+    pub fn named(&self, name: &str) -> &[usize]
         ensures { result.now ≡ s.grouped self.now name.now }
     {
         match self.by_name.get(name) {
