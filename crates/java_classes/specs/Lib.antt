@@ -1,2 +1,4 @@
 pub mod Classes
 pub mod Faults
+pub mod Numbers
+pub mod Tables

@@ -23,9 +23,6 @@ pub struct ClassRow {
     pub has_file: bool,
 }
 
-/// The classes of a project: those of the first file first, and those of a file in the order of the text.
-pub type Classes = Items<ClassRow>;
-
 fn push_parts(text: &mut Text, xs: &[JDotted]) -> Result<(), NoMemory>
     ensures { IfOk result (λ u. text.new ≡ text.old ++ s.behind xs.now) }
 {
@@ -122,7 +119,7 @@ fn headed(
 #[tactic(auto, unfolding(crate::specs::Classes::type_rows), using(crate::proofs::Lists::rows))]
 fn push_type(
     alloc: Global,
-    out: &mut Classes,
+    out: &mut Items<ClassRow>,
     number: usize,
     path: &Text,
     home: &Text,
@@ -141,7 +138,7 @@ fn push_type(
 
 fn push_types(
     alloc: Global,
-    out: &mut Classes,
+    out: &mut Items<ClassRow>,
     number: usize,
     path: &Text,
     home: &Text,
@@ -155,15 +152,20 @@ fn push_types(
     Ok(())
 }
 
-fn push_unit(alloc: Global, out: &mut Classes, number: usize, x: &JUnit) -> Result<(), NoMemory>
+fn push_unit(
+    alloc: Global,
+    out: &mut Items<ClassRow>,
+    number: usize,
+    x: &JUnit,
+) -> Result<(), NoMemory>
     ensures { IfOk result (λ u. out.new ≡ out.old ++ s.unit_rows number x.now) }
 {
     let home = package_name(alloc, &x.package)?;
     push_types(alloc, out, number, &x.path, &home, x.types.as_slice())
 }
 
-/// The classes of the files.
-pub fn class_rows(alloc: Global, units: &[JUnit]) -> Result<Classes, NoMemory>
+/// The classes of the files: those of the first file first, and those of a file in the order of the text.
+pub fn class_rows(alloc: Global, units: &[JUnit]) -> Result<Items<ClassRow>, NoMemory>
     ensures { IfOk result (λ rows. rows ≡ s.class_rows units.now) }
 {
     let mut out = Items::new(alloc);

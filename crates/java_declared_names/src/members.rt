@@ -4,7 +4,7 @@ ghost use Rattle.java_declared_names.specs.Declared as s;
 
 use crate::parameters::{is_class, is_reserved_variable};
 use j2k_base::NoMemory;
-use java_classes::{ClassRow, NameFault, Names, put_if};
+use java_classes::{Classes, NameFault, Names, put_if};
 use java_member_grammar::JMemberHead;
 use java_statement_grammar::JDeclarator;
 use java_unit_grammar::JMember;
@@ -13,7 +13,7 @@ use std::alloc::Global;
 
 fn push_field(
     out: &mut Items<NameFault>,
-    rows: &[ClassRow],
+    rows: &Classes,
     unit: usize,
     is_first: bool,
     x: &JDeclarator,
@@ -27,7 +27,7 @@ fn push_field(
 fn push_fields(
     out: &mut Items<NameFault>,
     seen: &mut Names,
-    rows: &[ClassRow],
+    rows: &Classes,
     unit: usize,
     xs: &[JDeclarator],
 ) -> Result<(), NoMemory>
@@ -44,7 +44,7 @@ fn push_fields(
 fn push_head(
     out: &mut Items<NameFault>,
     seen: &mut Names,
-    rows: &[ClassRow],
+    rows: &Classes,
     unit: usize,
     head: &JMemberHead,
 ) -> Result<(), NoMemory>
@@ -64,7 +64,7 @@ fn push_head(
 fn push_member(
     out: &mut Items<NameFault>,
     seen: &mut Names,
-    rows: &[ClassRow],
+    rows: &Classes,
     unit: usize,
     x: &JMember,
 ) -> Result<(), NoMemory>
@@ -82,7 +82,7 @@ fn push_member(
 pub fn member_faults(
     alloc: Global,
     out: &mut Items<NameFault>,
-    rows: &[ClassRow],
+    rows: &Classes,
     unit: usize,
     xs: &[JMember],
 ) -> Result<(), NoMemory>

@@ -3,22 +3,21 @@ ghost use Rattle.std.specs.Prelude.{◌≡◌, ◌++◌, IfOk};
 ghost use Rattle.java_declared_names.specs.Declared as s;
 
 use j2k_base::{Name, NoMemory};
-use java_classes::{ClassRow, NameFault, Names, is_reserved, put_if};
+use java_classes::{Classes, NameFault, Names, is_reserved, put_if};
 use java_lib::simple_row;
 use java_member_grammar::JTypeParam;
 use sqlite_items::Items;
 use std::alloc::Global;
 
 /// Whether a class of the project bears the name.
-pub fn is_class(rows: &[ClassRow], name: &Name) -> bool
+pub fn is_class(rows: &Classes, name: &Name) -> bool
     ensures { result ≡ s.is_class rows.now name.now }
 {
-    rows.iter()
-        .any(|row| row.name.as_bytes() == name.as_bytes())
+    rows.has(name.as_str())
 }
 
 /// Whether a variable may not bear the name.
-pub fn is_reserved_variable(rows: &[ClassRow], name: &Name) -> bool
+pub fn is_reserved_variable(rows: &Classes, name: &Name) -> bool
     ensures { result ≡ s.is_reserved_variable rows.now name.now }
 {
     name.as_bytes() == "java".as_bytes()
@@ -29,7 +28,7 @@ pub fn is_reserved_variable(rows: &[ClassRow], name: &Name) -> bool
 
 fn push_parameter(
     out: &mut Items<NameFault>,
-    rows: &[ClassRow],
+    rows: &Classes,
     unit: usize,
     is_first: bool,
     x: &JTypeParam,
@@ -50,7 +49,7 @@ fn push_parameter(
 pub fn parameter_faults(
     alloc: Global,
     out: &mut Items<NameFault>,
-    rows: &[ClassRow],
+    rows: &Classes,
     unit: usize,
     xs: &[JTypeParam],
 ) -> Result<(), NoMemory>

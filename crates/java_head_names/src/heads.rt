@@ -28,13 +28,7 @@ fn push_parameters(
     match params {
         None => Ok(()),
         Some(own) => {
-            parameter_faults(
-                alloc,
-                out,
-                world.rows.as_slice(),
-                unit,
-                own.items.as_slice(),
-            )?;
+            parameter_faults(alloc, out, &world.rows, unit, own.items.as_slice())?;
             bound_cycles(alloc, out, unit, own.items.as_slice())?;
             push_bounds(
                 alloc,
@@ -62,7 +56,7 @@ fn push_body(
 ) -> Result<(), NoMemory>
     ensures { IfOk result (λ u. out.new ≡ out.old ++ s.body_faults world.now unit scope.now params.now is_interface members.now) }
 {
-    member_faults(alloc, out, world.rows.as_slice(), unit, members)?;
+    member_faults(alloc, out, &world.rows, unit, members)?;
     push_members(
         alloc,
         out,

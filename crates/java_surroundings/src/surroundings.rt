@@ -49,7 +49,7 @@ impl<'a> Context for Surroundings<'a> {
     }
 
     fn is_reserved(&self, name: &Name) -> bool {
-        is_reserved_variable(self.world.rows.as_slice(), name)
+        is_reserved_variable(&self.world.rows, name)
     }
 
     fn is_type_parameter(&self, name: &Name) -> bool {

@@ -1,5 +1,5 @@
 -- A class by its package and its name.
-use Rattle.std.specs.Prelude.{ℕ, ◌+◌, ◌&&◌, ◌||◌, if◌then◌else◌, List, [], ◌∷◌, Option, Some, None}
+use Rattle.std.specs.Prelude.{ℕ, ◌+◌, ◌&&◌, ◌||◌, if◌then◌else◌, List, [], ◌∷◌, Option, Some, None, slice_get}
 use Rattle.std.specs.Str.{bytes_eq}
 use Rattle.std.specs.Option.{option_or}
 use Rattle.java_lib.specs.Library.{Class, classes}
@@ -20,6 +20,15 @@ project_from from home name number (row ∷ rows) =
 
 abbrev pub project_class : List ClassRow → List ℕ → List ℕ → List ℕ → Option Meant
 project_class rows from home name = project_from from home name 0 rows
+
+-- the same, by the number of the first class: helpers, which no promise names
+abbrev pub seen_row : Option ClassRow → List ℕ → ℕ → Option Meant
+seen_row None from number = None
+seen_row (Some row) from number = seen row from number
+
+abbrev pub seen_first : List ClassRow → List ℕ → Option ℕ → Option Meant
+seen_first rows from None = None
+seen_first rows from (Some number) = seen_row (slice_get rows number) from number
 
 abbrev pub library_by : List ℕ → Option Class → Option Meant
 library_by home None = None

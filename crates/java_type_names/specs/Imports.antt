@@ -49,6 +49,11 @@ own_from unit name number (row ∷ rows) =
 abbrev pub own_class : List ClassRow → ℕ → List ℕ → Option Meant
 own_class rows unit name = own_from unit name 0 rows
 
+-- the same, by its number: a helper, which no promise names
+abbrev pub of_project : Option ℕ → Option Meant
+of_project None = None
+of_project (Some number) = Some (m.Project number)
+
 abbrev pub with_single : FileScope → List ℕ → Meant → FileScope
 with_single scope name class = record scope { singles = scope.singles ++ record { name = name; class = class } ∷ [] }
 

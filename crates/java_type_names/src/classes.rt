@@ -1,5 +1,6 @@
 // A class by its package and its name.
 ghost use Rattle.std.specs.Prelude.{◌≡◌, Some};
+ghost use Rattle.std.specs.Option.{option_copied};
 ghost use Rattle.java_lib.specs.Classes.{class_of};
 ghost use Rattle.java_type_names.specs.Classes as s;
 
@@ -21,18 +22,6 @@ pub struct World {
     pub packages: Packages,
 }
 
-/// The first class of the project in a package by its name, where it may be seen from a package (JLS 6.6.1).
-fn project_class(rows: &[ClassRow], from: &Text, home: &Text, name: &Name) -> Option<Meant>
-    ensures { result ≡ s.project_class rows.now from.now home.now name.now }
-{
-    for (number, row) in rows.iter().enumerate() {
-        if row.home.as_bytes() == home.as_bytes() && row.name.as_bytes() == name.as_bytes() {
-            return seen(row, from, number);
-        }
-    }
-    None
-}
-
 fn seen(row: &ClassRow, from: &Text, number: usize) -> Option<Meant>
     ensures { result ≡ s.seen row.now from.now number }
 {
@@ -41,6 +30,31 @@ fn seen(row: &ClassRow, from: &Text, number: usize) -> Option<Meant>
     } else {
         None
     }
+}
+
+fn seen_row(row: Option<&ClassRow>, from: &Text, number: usize) -> Option<Meant>
+    ensures { result ≡ s.seen_row (option_copied row.entry) from.now number }
+{
+    match row {
+        None => None,
+        Some(row) => seen(row, from, number),
+    }
+}
+
+fn seen_first(rows: &[ClassRow], from: &Text, number: Option<usize>) -> Option<Meant>
+    ensures { result ≡ s.seen_first rows.now from.now number }
+{
+    match number {
+        None => None,
+        Some(number) => seen_row(rows.get(number), from, number),
+    }
+}
+
+/// The first class of the project in a package by its name, where it may be seen from a package (JLS 6.6.1).
+fn project_class(rows: &Classes, from: &Text, home: &Text, name: &Name) -> Option<Meant>
+    ensures { result ≡ s.project_class rows.now from.now home.now name.now }
+{
+    seen_first(rows.as_slice(), from, rows.in_package(home, name.as_str()))
 }
 
 fn library_row(home: &Text, row: &LibraryRow) -> Option<Meant>
@@ -64,7 +78,7 @@ fn library_class(home: &Text, name: &Name) -> Option<Meant>
 
 /// The class in a package by its name, where it may be seen from a package: a class of the project, else one of the
 /// library.
-pub fn seen_at(rows: &[ClassRow], from: &Text, home: &Text, name: &Name) -> Option<Meant>
+pub fn seen_at(rows: &Classes, from: &Text, home: &Text, name: &Name) -> Option<Meant>
     ensures { result ≡ s.seen_at rows.now from.now home.now name.now }
 {
     project_class(rows, from, home, name).or(library_class(home, name))

@@ -7,7 +7,7 @@ use crate::classes::{Meant, World};
 use crate::places::{Place, next_part, package_or_lost};
 use crate::scopes::{FileScope, Single, imported, is_same};
 use j2k_base::{Name, NoMemory, Text};
-use java_classes::{ClassRow, NameFault, dotted, package_name, put_if};
+use java_classes::{Classes, NameFault, dotted, package_name, put_if};
 use java_member_grammar::JImport;
 use java_tree::{JDotted, JQualified, Position};
 use java_unit_grammar::JUnit;
@@ -58,16 +58,20 @@ fn is_other(known: Option<Meant>, class: Meant) -> bool
     }
 }
 
+fn of_project(number: Option<usize>) -> Option<Meant>
+    ensures { result ≡ s.of_project number }
+{
+    match number {
+        None => None,
+        Some(number) => Some(Meant::Project(number)),
+    }
+}
+
 /// The first class of a file by its name.
-fn own_class(rows: &[ClassRow], unit: usize, name: &Name) -> Option<Meant>
+fn own_class(rows: &Classes, unit: usize, name: &Name) -> Option<Meant>
     ensures { result ≡ s.own_class rows.now unit name.now }
 {
-    for (number, row) in rows.iter().enumerate() {
-        if row.unit == unit && row.name.as_bytes() == name.as_bytes() {
-            return Some(Meant::Project(number));
-        }
-    }
-    None
+    of_project(rows.in_file(unit, name.as_str()))
 }
 
 fn last_from<'a>(name: &'a Name, at: Position, xs: &'a [JDotted]) -> (&'a Name, Position)
@@ -123,7 +127,7 @@ fn import_single(
     match place {
         Place::Class(class) => {
             let is_twice = is_other(imported(scope.singles.as_slice(), name), class)
-                || is_other(own_class(world.rows.as_slice(), unit, name), class);
+                || is_other(own_class(&world.rows, unit, name), class);
             put_if(out, is_twice, unit, at, 2)?;
             add_single(alloc, scope, name, class)
         }

@@ -46,7 +46,7 @@ pub fn first_type(
 ) -> Result<Place, NoMemory>
     ensures { IfOk result (λ place. place ≡ s.first_type world.now scope.now name.now at) }
 {
-    match simple_class(world.rows.as_slice(), scope, name) {
+    match simple_class(&world.rows, scope, name) {
         Found::One(class) => Ok(Place::Class(class)),
         Found::Several => Ok(Place::Ambiguous(at)),
         Found::Nothing => {
@@ -67,7 +67,7 @@ fn in_package(
 ) -> Result<Place, NoMemory>
     ensures { IfOk result (λ place. place ≡ s.in_package world.now from.now text.now name.now at) }
 {
-    if let Some(class) = seen_at(world.rows.as_slice(), from, text, name) {
+    if let Some(class) = seen_at(&world.rows, from, text, name) {
         return Ok(Place::Class(class));
     }
     let mut more = Text::from_str(alloc, text.as_str())?;

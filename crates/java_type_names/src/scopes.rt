@@ -4,7 +4,7 @@ ghost use Rattle.java_type_names.specs.Scopes as s;
 
 use crate::classes::{Meant, seen_at};
 use j2k_base::{Name, Text};
-use java_classes::ClassRow;
+use java_classes::Classes;
 use sqlite_items::Items;
 
 /// A class that is imported by its name.
@@ -52,7 +52,7 @@ fn met(found: Found, class: Option<Meant>) -> Found
     }
 }
 
-fn demanded(rows: &[ClassRow], from: &Text, demands: &[Text], name: &Name) -> Found
+fn demanded(rows: &Classes, from: &Text, demands: &[Text], name: &Name) -> Found
     ensures { result ≡ s.demanded rows.now from.now name.now demands.now }
 {
     let mut found = Found::Nothing;
@@ -75,7 +75,7 @@ pub(crate) fn imported(singles: &[Single], name: &Name) -> Option<Meant>
 
 /// A simple name of a class (JLS 6.4.1, 6.5.5.1): what the file imports by this name, else the class of its package,
 /// else those of the packages that it imports on demand.
-pub fn simple_class(rows: &[ClassRow], scope: &FileScope, name: &Name) -> Found
+pub fn simple_class(rows: &Classes, scope: &FileScope, name: &Name) -> Found
     ensures { result ≡ s.simple_class rows.now scope.now name.now }
 {
     let near = imported(scope.singles.as_slice(), name).or(seen_at(
