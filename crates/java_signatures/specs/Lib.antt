@@ -1,2 +1,3 @@
 pub mod Signatures
 pub mod Same
+pub mod Numbers

@@ -1,12 +1,16 @@
 // Signatures, and the methods and constructors that have one of an earlier one.
-ghost use Rattle.std.specs.Prelude.{◌≡◌, ◌++◌, ◌∷◌, [], IfOk};
+ghost use Rattle.std.specs.Prelude.{◌≡◌, ◌++◌, ◌∷◌, [], ℕ, List, take, IfOk};
 ghost use Rattle.std.specs.List.{list_any};
+ghost use Rattle.std.specs.Option.{option_copied};
+ghost use Rattle.java_tables.specs.Names.{grouped, numbers_of};
+ghost use Rattle.java_signatures.specs.Numbers as n;
 ghost use Rattle.java_signatures.specs.Signatures as s;
 
 use crate::erasure::{Piece, push_kinds, same_pieces};
 use j2k_base::{Name, NoMemory};
 use java_classes::{NameFault, put_if};
 use java_member_grammar::{JMemberHead, JTypeParams};
+use java_tables::{Groups, NamedRow, group};
 use java_tree::{JTypedParam, Position};
 use java_type_names::{FileScope, World};
 use java_unit_grammar::JMember;
@@ -119,20 +123,73 @@ fn same_signature(x: &Signature, y: &Signature) -> bool
             && same_pieces(x.kinds.as_slice(), y.kinds.as_slice()))
 }
 
-fn has_same(seen: &[Signature], x: &Signature) -> bool
-    ensures { result ≡ list_any (s.same_signature x.now) seen.now }
+fn numbered(alloc: Global, xs: &[Signature]) -> Result<Vec<NamedRow>, NoMemory>
+    ensures { IfOk result (λ rows. rows.items ≡ n.numbered 0 xs.now) }
 {
-    seen.iter().any(|y| same_signature(x, y))
+    let mut out = Vec::new(alloc);
+    for (number, x) in xs.iter().enumerate() {
+        let name = Name::from_str(alloc, x.name.as_str())?;
+        out.push(NamedRow { name, number })?;
+    }
+    Ok(out)
 }
 
-fn push_faults(out: &mut Items<NameFault>, unit: usize, xs: &[Signature]) -> Result<(), NoMemory>
+fn is_same_as(x: &Signature, y: Option<&Signature>) -> bool
+    ensures { result ≡ n.is_same_by x.now (option_copied y.entry) }
+{
+    match y {
+        None => false,
+        Some(y) => same_signature(x, y),
+    }
+}
+
+fn is_earlier(xs: &[Signature], number: usize, x: &Signature, other: usize) -> bool
+    ensures { result ≡ n.is_earlier xs.now number x.now other }
+{
+    other < number && is_same_as(x, xs.get(other))
+}
+
+fn has_same(xs: &[Signature], number: usize, x: &Signature, others: &[usize]) -> bool
+    ensures { result ≡ list_any (n.is_earlier xs.now number x.now) others.now }
+{
+    others.iter().any(|other| is_earlier(xs, number, x, *other))
+}
+
+/// Whether the same signature stands before the number, where the signatures are found by their names.
+fn has_earlier(xs: &[Signature], groups: &Groups, number: usize, x: &Signature) -> bool
+    requires { (name : List ℕ) → grouped groups.now name ≡ numbers_of name (n.numbered 0 xs.now) }
+    ensures { result ≡ list_any (s.same_signature x.now) (take number xs.now) }
+{
+    has_same(xs, number, x, groups.named(x.name.as_str()))
+}
+
+fn push_seconds(
+    out: &mut Items<NameFault>,
+    unit: usize,
+    groups: &Groups,
+    xs: &[Signature],
+) -> Result<(), NoMemory>
+    requires { (name : List ℕ) → grouped groups.now name ≡ numbers_of name (n.numbered 0 xs.now) }
     ensures { IfOk result (λ u. out.new ≡ out.old ++ s.faults_from unit [] xs.now) }
 {
     for (number, x) in xs.iter().enumerate() {
-        let is_twice = has_same(&xs[..number], x);
+        let is_twice = has_earlier(xs, groups, number, x);
         put_if(out, is_twice, unit, x.at, 2)?;
     }
     Ok(())
+}
+
+fn push_faults(
+    alloc: Global,
+    out: &mut Items<NameFault>,
+    unit: usize,
+    xs: &[Signature],
+) -> Result<(), NoMemory>
+    ensures { IfOk result (λ u. out.new ≡ out.old ++ s.faults_from unit [] xs.now) }
+{
+    let rows = numbered(alloc, xs)?;
+    let groups = group(alloc, rows.as_slice())?;
+    push_seconds(out, unit, &groups, xs)
 }
 
 /// A fault at the name of each method or constructor of a class that has the name and the erased types of parameters of an
@@ -150,5 +207,5 @@ pub fn signature_faults(
 {
     let mut found = Items::new(alloc);
     push_members(alloc, &mut found, world, scope, params, xs)?;
-    push_faults(out, unit, found.as_slice())
+    push_faults(alloc, out, unit, found.as_slice())
 }
