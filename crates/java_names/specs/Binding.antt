@@ -1,9 +1,10 @@
 -- Which projects are bound: those whose names have no fault.
-use Rattle.std.specs.Prelude.{◌≡◌, ℕ, ◌+◌, List, [], ◌∷◌, ◌++◌}
+use Rattle.std.specs.Prelude.{◌≡◌, ℕ, ◌+◌, List, [], ◌∷◌, ◌++◌, Some}
+use Rattle.j2k_base.specs.declared.places.Fault.{Fault}
 use Rattle.j2k_base.specs.declared.places.Stop.{Stop}
 use Rattle.j2k_base.specs.declared.places.Stop.TheVariants as stop
 use Rattle.judged.specs.declared.notes.Note.{Note}
-use Rattle.judged.specs.Notes.{IsFirst, faults_in}
+use Rattle.judged.specs.Notes.{IsFirst, faults_in, first_fault}
 use Rattle.java_unit_grammar.specs.declared.units.JUnit.{JUnit}
 use Rattle.java_classes.specs.declared.faults.NameFault.{NameFault}
 use Rattle.java_classes.specs.Classes as c
@@ -73,10 +74,15 @@ project_notes units entries = notes units (name_faults units) ++ entry_notes (wo
 
 -- ---- projects
 
-abbrev pub IsBound : List JUnit → List (List ℕ) → Type 0
-IsBound units entries = faults_in (project_notes units entries) ≡ []
+-- no name has a fault
+pub record IsBound (units : List JUnit) (entries : List (List ℕ)) : Type 0 where
+  pub none : faults_in (project_notes units entries) ≡ []
 
--- a fault is the first of the project
+-- the fault is the first of the project, and of those of one code at one place the first that was noted
+pub record IsRefused (units : List JUnit) (entries : List (List ℕ)) (fault : Fault) : Type 0 where
+  pub first : IsFirst (project_notes units entries) fault
+  pub told : first_fault (project_notes units entries) ≡ Some fault
+
 abbrev pub IsRefusal : List JUnit → List (List ℕ) → Stop → Type 0
 IsRefusal units entries stop.Memory = Unit {0}
-IsRefusal units entries (stop.Fault fault) = IsFirst (project_notes units entries) fault
+IsRefusal units entries (stop.Fault fault) = IsRefused units entries fault

@@ -1,7 +1,6 @@
 // Projects that are bound.
 ghost use Rattle.std.specs.Prelude.{◌≡◌, ◌++◌, ◌↔◌, [], IfOk, IfErr, IfSome, IsNone};
-ghost use Rattle.judged.specs.Notes.{IsFirst, faults_in};
-ghost use Rattle.java_member_tables.specs.Tables.{UnitsAreNumbered};
+ghost use Rattle.judged.specs.Notes.{IsFirst, faults_in, first_fault};
 ghost use Rattle.java_names.specs.Binding as s;
 
 use crate::facts::{Facts, facts_of};
@@ -19,6 +18,9 @@ pub struct Bound {
     pub entries: EntryNames,
     pub facts: Facts,
 }
+
+/// A bound project is let go.
+pub fn let_go(_bound: Bound) {}
 
 /// What was found of a project.
 #[derive(Drop)]
@@ -40,6 +42,7 @@ fn first_of(
     requires faults { faults.now ≡ s.name_faults units.now }
     ensures first { IfOk result (λ found. IfSome found (IsFirst (s.project_notes units.now entries.now))) }
     ensures none { IfOk result (λ found. IsNone found ↔ (faults_in (s.project_notes units.now entries.now) ≡ [])) }
+    ensures told { IfOk result (λ found. found ≡ first_fault (s.project_notes units.now entries.now)) }
 {
     let notes = notes(alloc, faults, facts, units, entries)?;
     first(alloc, notes.as_slice())
@@ -57,16 +60,17 @@ fn fault_of(
     requires faults { faults.now ≡ s.import_faults (s.world units.now) 0 units.now }
     ensures first { IfOk result (λ found. IfSome found (IsFirst (s.project_notes units.now entries.now))) }
     ensures none { IfOk result (λ found. IsNone found ↔ (faults_in (s.project_notes units.now entries.now) ≡ [])) }
+    ensures told { IfOk result (λ found. found ≡ first_fault (s.project_notes units.now entries.now)) }
 {
     push_faults(alloc, faults, facts, units)?;
     first_of(alloc, faults.as_slice(), facts, units, entries)
 }
 
 fn find(alloc: Global, units: &[JUnit], entries: &[Text]) -> Result<Found, NoMemory>
-    requires { UnitsAreNumbered units.now }
     ensures facts { IfOk result (λ found. found.facts ≡ s.facts units.now) }
     ensures first { IfOk result (λ found. IfSome found.fault (IsFirst (s.project_notes units.now entries.now))) }
     ensures none { IfOk result (λ found. IsNone found.fault ↔ (faults_in (s.project_notes units.now entries.now) ≡ [])) }
+    ensures told { IfOk result (λ found. found.fault ≡ first_fault (s.project_notes units.now entries.now)) }
 {
     let mut faults = Items::new(alloc);
     let facts = facts_of(alloc, &mut faults, units)?;
@@ -80,7 +84,6 @@ fn find(alloc: Global, units: &[JUnit], entries: &[Text]) -> Result<Found, NoMem
 }
 
 fn refused(alloc: Global, units: &[JUnit], entries: &[Text]) -> Result<Facts, Stop>
-    requires { UnitsAreNumbered units.now }
     ensures facts { IfOk result (λ facts. facts ≡ s.facts units.now) }
     ensures bound { IfOk result (λ facts. s.IsBound units.now entries.now) }
     ensures refused { IfErr result (s.IsRefusal units.now entries.now) }
@@ -108,7 +111,6 @@ fn copied(alloc: Global, entries: &[Text]) -> Result<EntryNames, NoMemory>
 fn let_go_units(_units: Items<JUnit>) {}
 
 fn tables(alloc: Global, units: &[JUnit], entries: &[Text]) -> Result<(EntryNames, Facts), Stop>
-    requires { UnitsAreNumbered units.now }
     ensures entries { IfOk result (λ tables. tables.0 ≡ entries.now) }
     ensures facts { IfOk result (λ tables. tables.1 ≡ s.facts units.now) }
     ensures bound { IfOk result (λ tables. s.IsBound units.now entries.now) }
@@ -120,9 +122,8 @@ fn tables(alloc: Global, units: &[JUnit], entries: &[Text]) -> Result<(EntryName
 }
 
 /// Binds the names of a project: Ok exactly where no name has a fault, and else the first fault, of N0 to N6, by the bytes of the
-/// path, the offset and the number of the code; want of memory apart. Each class has fewer than 2^32 fields and as few methods.
+/// path, the offset and the number of the code; want of memory apart.
 pub fn bind(alloc: Global, units: Items<JUnit>, entries: &EntryNames) -> Result<Bound, Stop>
-    requires { UnitsAreNumbered units }
     ensures units { IfOk result (λ bound. bound.units ≡ units) }
     ensures entries { IfOk result (λ bound. bound.entries ≡ entries.now) }
     ensures facts { IfOk result (λ bound. bound.facts ≡ s.facts units) }

@@ -1,11 +1,10 @@
 // What the names of a project's classes tell.
 ghost use Rattle.std.specs.Prelude.{◌≡◌, ◌++◌, IfOk};
-ghost use Rattle.java_member_tables.specs.Tables.{UnitsAreNumbered};
 ghost use Rattle.java_names.specs.Binding as s;
 
 use j2k_base::NoMemory;
 use java_class_names::{ClassPlace, class_places};
-use java_classes::{NameFault, class_rows, declared_packages};
+use java_classes::{Classes, NameFault, class_rows, declared_packages};
 use java_member_tables::class_table;
 use java_members::Class;
 use java_supertypes::{Heading, headings};
@@ -28,7 +27,7 @@ pub struct Facts {
 fn world(alloc: Global, units: &[JUnit]) -> Result<World, NoMemory>
     ensures { IfOk result (λ world. world ≡ s.world units.now) }
 {
-    let rows = class_rows(alloc, units)?;
+    let rows = Classes::new(alloc, class_rows(alloc, units)?)?;
     let packages = declared_packages(alloc, units)?;
     Ok(World { rows, packages })
 }
@@ -56,7 +55,6 @@ fn built(
     scopes: Items<FileScope>,
     units: &[JUnit],
 ) -> Result<Facts, NoMemory>
-    requires numbered { UnitsAreNumbered units.now }
     requires world { world ≡ s.world units.now }
     requires scopes { scopes ≡ s.scopes units.now }
     ensures { IfOk result (λ facts. facts ≡ s.facts units.now) }
@@ -79,7 +77,6 @@ pub(crate) fn facts_of(
     out: &mut Items<NameFault>,
     units: &[JUnit],
 ) -> Result<Facts, NoMemory>
-    requires { UnitsAreNumbered units.now }
     ensures facts { IfOk result (λ facts. facts ≡ s.facts units.now) }
     ensures faults { IfOk result (λ u. out.new ≡ out.old ++ s.import_faults (s.world units.now) 0 units.now) }
 {

@@ -1,6 +1,7 @@
 // The faults of the names of a project.
 ghost use Rattle.std.specs.Prelude.{◌≡◌, ◌++◌, ◌↔◌, [], IfOk, IfSome, IsNone};
 ghost use Rattle.judged.specs.Notes.{IsFirst, faults_in};
+ghost use Rattle.judged.specs.Notes as j;
 ghost use Rattle.java_names.specs.Binding as s;
 
 use crate::facts::Facts;
@@ -88,6 +89,7 @@ pub(crate) fn notes(
 pub(crate) fn first(alloc: Global, notes: &[Note<Later>]) -> Result<Option<Fault>, NoMemory>
     ensures first { IfOk result (λ found. IfSome found (IsFirst notes.now)) }
     ensures none { IfOk result (λ found. IsNone found ↔ (faults_in notes.now ≡ [])) }
+    ensures told { IfOk result (λ found. found ≡ j.first_fault notes.now) }
 {
     match first_fault(notes) {
         None => Ok(None),

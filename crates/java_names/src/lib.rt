@@ -4,6 +4,8 @@
 mod binding;
 mod facts;
 mod faults;
+mod laws;
 
-pub use binding::{Bound, bind};
+pub use binding::{Bound, bind, let_go};
 pub use facts::Facts;
+pub use laws::{not_both, one_refusal};

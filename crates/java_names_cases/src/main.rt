@@ -4,18 +4,13 @@
 use case_rows::answer_rows;
 use j2k_base::{EntryNames, Fault, NoMemory, Stop, Text};
 use java_lexer::lex;
-use java_member_tables::are_numbered;
-use java_names::{Bound, bind};
+use java_names::{Bound, bind, let_go};
 use java_parser::parse;
 use java_unit_grammar::JUnit;
 use sqlite_items::Items;
 use std::alloc::Global;
 use std::fmt::Write;
 use std::io;
-
-fn let_go_bound(bound: Bound) {
-    drop(bound);
-}
 
 fn let_go_units(units: Items<JUnit>) {
     drop(units);
@@ -32,7 +27,7 @@ fn text_of(alloc: Global, letters: &[u8]) -> Result<Text, NoMemory> {
 }
 
 fn parsed(alloc: Global, path: &Text, text: &[u8]) -> Result<JUnit, Stop> {
-    if text.len() < 100_000 {
+    if text.len() < 16_777_216 {
         parse(alloc, lex(alloc, path, text)?)
     } else {
         Err(Stop::Memory)
@@ -99,32 +94,12 @@ fn put_fault(out: &mut String, fault: &Fault) -> Result<(), NoMemory> {
 fn put_answer(out: &mut String, answer: Result<Bound, Stop>) -> Result<(), NoMemory> {
     match answer {
         Ok(bound) => {
-            let_go_bound(bound);
+            let_go(bound);
             out.push_str("none")?;
             Ok(())
         }
         Err(Stop::Memory) => Err(NoMemory),
         Err(Stop::Fault(fault)) => put_fault(out, &fault),
-    }
-}
-
-fn put_bound(
-    alloc: Global,
-    out: &mut String,
-    units: Items<JUnit>,
-    entries: &EntryNames,
-) -> Result<(), NoMemory> {
-    match are_numbered(alloc, units.as_slice()) {
-        Ok(true) => put_answer(out, bind(alloc, units, entries)),
-        Ok(false) => {
-            let_go_units(units);
-            out.push_str("too many members")?;
-            Ok(())
-        }
-        Err(error) => {
-            let_go_units(units);
-            Err(error)
-        }
     }
 }
 
@@ -135,7 +110,7 @@ fn put(alloc: Global, text: &[u8], out: &mut String) -> Result<(), NoMemory> {
         let_go_units(units);
         return Err(error);
     }
-    put_bound(alloc, out, units, &entries)
+    put_answer(out, bind(alloc, units, &entries))
 }
 
 fn main(rt: HostRuntime) -> io::Result<()> {

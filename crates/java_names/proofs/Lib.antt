@@ -1,0 +1,2 @@
+pub mod LawsToCite
+mod Once
