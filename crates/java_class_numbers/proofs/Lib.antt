@@ -1,0 +1,5 @@
+pub mod LawsToCite
+mod Lists
+mod Standing
+mod Tables
+mod Numbers
