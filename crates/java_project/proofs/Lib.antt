@@ -1,0 +1,4 @@
+pub mod LawsToCite
+pub mod Firsts
+pub mod Once
+pub mod Reading
