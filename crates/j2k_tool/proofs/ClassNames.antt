@@ -1,7 +1,6 @@
 -- The classes of files that are taken have the names of their files, and these differ: together the files are well typed.
 use Rattle.std.proofs.Common.{◌≡◌, ℕ, ◌-◌, Bool, true, false, cond, ◌&&◌, ◌||◌, not, List, [], ◌∷◌, ◌++◌, length, take, Option, Some, None, refl, sym, ◌∙◌, ap, subst, eqb-true}
 use Rattle.std.specs.Prelude.{◌==◌, nat_eq, codes, option_map}
-use Rattle.std.specs.Char.{is_ascii_alphabetic, is_ascii_alphanumeric}
 use Rattle.std.specs.List.{All, list_all, ends_with, slice_split, onto_first, cons_option, slice_index}
 use Rattle.std.specs.Str.{bytes_eq}
 use Rattle.std.proofs.lemmas.Bool.Decides.{Decides-eqb}
@@ -13,11 +12,12 @@ use Rattle.std.proofs.lemmas.Slice.Eq.{bytes_eq-Decides, ends_is}
 use Rattle.j2k_base.specs.declared.series.SourceFile.{SourceFile}
 use Rattle.j2k_sources.specs.Sources.{is_java, java_end}
 use Rattle.java_tree.specs.Seen.{seen}
-use Rattle.java_taken.specs.Names.{is_plain, is_reserved, is_free, contains_name}
+use Rattle.java_taken.specs.Names.{is_identifier, is_reserved, is_free, contains_name}
 use Rattle.java_taken.specs.Units.{is_file_of, may_name}
 use Rattle.java_taken.proofs.LawsToCite.{may_be_named, taken as taken_good}
 use Rattle.meanings.specs.Taken.{MainClass, class_in, AllTaken}
 use Rattle.meanings.specs.JTyped.{AllAreTyped, class_names, JTyped}
+use Rattle.meanings.specs.KSpells.{may_stand}
 use Rattle.meanings.specs.Values.{same_name, is_among, Differ}
 use Rattle.j2k_tool.specs.declared.files.TakenFile.{TakenFile}
 use Rattle.j2k_tool.specs.Paths.{last_or, last_part, base_of, class_name, with_name}
@@ -46,21 +46,21 @@ not_true false e = refl
 abbrev IsInner : ℕ → Type 0
 IsInner byte = is_slash byte ≡ false
 
-inner : (byte : ℕ) → is_ascii_alphanumeric byte ≡ true → IsInner byte
+inner : (byte : ℕ) → may_stand byte ≡ true → IsInner byte
 inner byte is = by_test (is_slash byte) refl
   where
     by_test : (b : Bool) → is_slash byte ≡ b → b ≡ false
     by_test false e = refl
-    by_test true e = let slash : is_ascii_alphanumeric 47 ≡ true = subst (λ b. is_ascii_alphanumeric b ≡ true) (eqb-true byte 47 e) is in absurd (cc slash)
+    by_test true e = let slash : may_stand 47 ≡ true = subst (λ b. may_stand b ≡ true) (eqb-true byte 47 e) is in absurd (cc slash)
 
-all_inner : (name : List ℕ) → list_all is_ascii_alphanumeric name ≡ true → All IsInner name
+all_inner : (name : List ℕ) → list_all may_stand name ≡ true → All IsInner name
 all_inner [] is = All-nil IsInner
 all_inner (byte ∷ name) is =
-    let two = both (is_ascii_alphanumeric byte) (list_all is_ascii_alphanumeric name) is in All-cons IsInner byte name (inner byte two.0) (all_inner name two.1)
+    let two = both (may_stand byte) (list_all may_stand name) is in All-cons IsInner byte name (inner byte two.0) (all_inner name two.1)
 
-file_inner : (name : List ℕ) → is_plain name ≡ true → All IsInner (name ++ java_end)
+file_inner : (name : List ℕ) → is_identifier name ≡ true → All IsInner (name ++ java_end)
 file_inner name is =
-    let two = both (not (length name == 0) && is_ascii_alphabetic (slice_index name 0)) (list_all is_ascii_alphanumeric name) is in
+    let two = both (not (length name == 0)) (list_all may_stand name) is in
     All-append IsInner name java_end (all_inner name two.1) (All-cons IsInner 46 (codes "java") refl (all_inner (codes "java") refl))
 
 -- two parts and more, of which this is the last
@@ -109,17 +109,17 @@ base_back name =
     sym (append_cancel_right name (base_of (name ++ java_end)) java_end (base_is (name ++ java_end) java))
 
 -- the class of a file has the name that its path gives
-class_named : (path name : List ℕ) → is_plain name ≡ true → is_file_of path name ≡ true → class_name path ≡ name
-class_named path name plain is = by_test (bytes_eq path (name ++ java_end)) refl is
+class_named : (path name : List ℕ) → is_identifier name ≡ true → is_file_of path name ≡ true → class_name path ≡ name
+class_named path name identifies is = by_test (bytes_eq path (name ++ java_end)) refl is
   where
     file : List ℕ
     file = codes "/" ++ (name ++ java_end)
 
     by_test : (b : Bool) → bytes_eq path (name ++ java_end) ≡ b → (b || ends_with nat_eq path file) ≡ true → class_name path ≡ name
-    by_test true e h = ap class_name ((bytes_eq-Decides path (name ++ java_end)).0 e) ∙ ap base_of (last_alone (name ++ java_end) (file_inner name plain)) ∙ base_back name
+    by_test true e h = ap class_name ((bytes_eq-Decides path (name ++ java_end)).0 e) ∙ ap base_of (last_alone (name ++ java_end) (file_inner name identifies)) ∙ base_back name
     by_test false e h =
         let path_is = (ends_is Decides-eqb path file (ends_with nat_eq path file) refl).0 h in
-        ap class_name path_is ∙ ap base_of (last_behind (take (length path - length file) path) (name ++ java_end) (file_inner name plain)) ∙ base_back name
+        ap class_name path_is ∙ ap base_of (last_behind (take (length path - length file) path) (name ++ java_end) (file_inner name identifies)) ∙ base_back name
 
 -- ---- names differ
 
@@ -173,9 +173,9 @@ more_apart earlier path (Some class) names may apart =
     let name = class.name in
     let last = both (is_free name && not (contains_name earlier name)) (is_file_of path name) (may class refl) in
     let two = both (is_free name) (not (contains_name earlier name)) last.0 in
-    let plain = (both (is_plain name) (not (is_reserved name)) two.0).0 in
+    let identifies = (both (is_identifier name) (not (is_reserved name)) two.0).0 in
     let first = not_true (contains_name earlier name) two.1 in
-    let are : AreNew (with_name earlier name) names = subst (λ n. AreNew (with_name earlier n) names) (class_named path name plain last.1) apart.0 in
+    let are : AreNew (with_name earlier name) names = subst (λ n. AreNew (with_name earlier n) names) (class_named path name identifies last.1) apart.0 in
     ((first, all_before earlier name names are), (not_among earlier name names first are, apart.1))
 
 -- ---- files that are taken

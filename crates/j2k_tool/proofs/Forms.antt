@@ -7,13 +7,13 @@ use Rattle.meanings.specs.declared.kotlin.KExpr.TheOpen.{KExpr-F}
 use Rattle.meanings.specs.declared.kotlin.KExpr.TheVariants as ke
 use Rattle.meanings.specs.declared.operators.Operator.{Operator}
 use Rattle.meanings.specs.KText as text
-use Rattle.meanings.specs.KText.{operator_text, expression_text}
+use Rattle.meanings.specs.KText.{name_text, operator_text, expression_text}
 
 printed : (x : KExpr-F KExpr) (y : KExpr) → roll-KExpr x ≡ y → expression_text y ≡ text.expression_by (map-KExpr KExpr (List ℕ) expression_text x)
 unfolding expression_text
 printed x y rolls = ap expression_text (sym rolls) ∙ fold-roll-KExpr (List ℕ) text.expression_by x
 
-pub printed_Local : (name : List ℕ) → expression_text (ke.Local name) ≡ name
+pub printed_Local : (name : List ℕ) → expression_text (ke.Local name) ≡ name_text name
 printed_Local name = printed (KExpr-F.Local name) _ (ke.rolls-Local name)
 
 pub printed_Number : (n : ℕ) → expression_text (ke.Number n) ≡ decimal n

@@ -3,7 +3,7 @@ use Rattle.std.specs.Prelude.{◌≡◌, ℕ, ◌++◌, List, [], ◌∷◌, len
 use Rattle.std.specs.List.{flat_map}
 use Rattle.j2k_io.specs.Disks.{Files, in_folder, with_files}
 use Rattle.meanings.specs.declared.kotlin.KFile.{KFile}
-use Rattle.meanings.specs.KSpells.{KSpells, HasNoKeyword}
+use Rattle.meanings.specs.KSpells.{KSpells}
 use Rattle.meanings.specs.Taken.{AllTaken}
 use Rattle.meanings.specs.SameSteps.{SameSteps, EntriesAreEntered}
 use Rattle.meanings.specs.Static.{KTyped}
@@ -14,12 +14,11 @@ use Rattle.j2k_tool.specs.Projects.{IsProject, trees_of}
 use Rattle.j2k_tool.specs.Report.{Choices, ReportText}
 use Rattle.j2k_tool.specs.Words.{words_mean}
 
--- The Kotlin file of a Java file: its place, and that it spells one Kotlin file, without a hard keyword for a name.
+-- The Kotlin file of a Java file: its place, and that it spells one Kotlin file.
 pub record IsWritten (dst : List ℕ) (java : TakenFile) (kotlin : KFile) (file : List ℕ × List ℕ) : Type 0 where
   pub place : file.0 ≡ in_folder dst (kotlin_path java.path)
   pub spelled : KSpells kotlin file.1
   pub one_kotlin : (other : KFile) → KSpells other file.1 → other ≡ kotlin
-  pub no_keyword : HasNoKeyword kotlin
 
 -- one file for each
 abbrev pub AreWritten : List ℕ → List TakenFile → List KFile → List (List ℕ × List ℕ) → Type 0

@@ -1,10 +1,13 @@
 // The canonical text of a Kotlin tree.
 ghost use Rattle.std.specs.Prelude.{◌≡◌, ◌++◌, Some, OnOk, IfOk};
-ghost use Rattle.std.specs.List.{flat_map};
-ghost use Rattle.meanings.specs.KText.{operator_text, expression_text, statement_text, main_text, class_text, part_text, package_text, KText};
+ghost use Rattle.std.specs.List.{flat_map, list_all};
+ghost use Rattle.kotlin_words.specs.Words.{contains_word};
+ghost use Rattle.meanings.specs.KText as k;
+ghost use Rattle.meanings.specs.KText.{name_text, operator_text, expression_text, statement_text, main_text, class_text, part_text, package_text, KText};
 
 use j2k_base::{Name, NoMemory, Text};
 use j2k_faults::push_number;
+use kotlin_words::is_hard_keyword;
 use meanings::kotlin::{
     KClass, KExpr, KFile, KMain, KOTLIN_CLASS, KOTLIN_CLASS_END, KOTLIN_CLASS_OPEN, KOTLIN_DOT,
     KOTLIN_EMPTY_LINE, KOTLIN_IS, KOTLIN_MAIN, KOTLIN_MAIN_END, KOTLIN_MAIN_OPEN, KOTLIN_PACKAGE,
@@ -16,6 +19,8 @@ use std::alloc::Global;
 const OPEN: &str = "(";
 
 const CLOSE: &str = ")";
+
+const TICK: &str = "`";
 
 /// The text of a Kotlin file.
 #[tactic(auto, unfolding(meanings::specs::KText::KText))]
@@ -36,11 +41,84 @@ pub fn text_of(alloc: Global, file: &KFile) -> Result<Text, NoMemory>
     Ok(out)
 }
 
+/// A name, in backticks where it can't stand bare.
+#[tactic(auto, unfolding(meanings::specs::KText::name_text))]
+fn push_name(out: &mut Text, name: &Name) -> Result<(), NoMemory>
+    ensures { OnOk result (out.new ≡ out.old ++ name_text name.now) }
+{
+    if is_bare(name.as_bytes()) {
+        out.push_str(name.as_str())
+    } else {
+        out.push_str(TICK)?;
+        out.push_str(name.as_str())?;
+        out.push_str(TICK)
+    }
+}
+
+/// Whether a name stands without backticks.
+#[tactic(auto, unfolding(meanings::specs::KText::is_bare))]
+fn is_bare(name: &[u8]) -> bool
+    ensures { result ≡ k.is_bare name.now }
+{
+    is_word(name) && !is_blank(name) && !is_keyword(name)
+}
+
+/// Whether a name is an identifier of ASCII.
+fn is_word(name: &[u8]) -> bool
+    ensures { result ≡ k.is_word name.now }
+{
+    !name.is_empty() && begins_word(name[0]) && has_word_bytes(name)
+}
+
+fn has_word_bytes(name: &[u8]) -> bool
+    ensures { result ≡ list_all k.is_word_byte name.now }
+{
+    name.iter().all(is_word_byte)
+}
+
+fn is_blank(name: &[u8]) -> bool
+    ensures { result ≡ list_all k.is_underscore name.now }
+{
+    name.iter().all(is_underscore)
+}
+
+fn is_keyword(name: &[u8]) -> bool
+    ensures { result ≡ k.is_keyword name.now }
+{
+    is_hard_keyword(name) || is_other_keyword(name)
+}
+
+fn is_other_keyword(name: &[u8]) -> bool
+    ensures { result ≡ contains_word k.other_keywords name.now }
+{
+    name == b"catch".as_slice()
+        || name == b"finally".as_slice()
+        || name == b"synchronized".as_slice()
+}
+
+fn begins_word(byte: u8) -> bool
+    ensures { result ≡ k.begins_word byte }
+{
+    byte.is_ascii_alphabetic() || byte == 95
+}
+
+fn is_word_byte(byte: &u8) -> bool
+    ensures { result ≡ k.is_word_byte byte.now }
+{
+    byte.is_ascii_alphanumeric() || *byte == 95
+}
+
+fn is_underscore(byte: &u8) -> bool
+    ensures { result ≡ k.is_underscore byte.now }
+{
+    *byte == 95
+}
+
 fn push_package(out: &mut Text, first: &Name, parts: &[Name]) -> Result<(), NoMemory>
     ensures { OnOk result (out.new ≡ out.old ++ package_text first.now parts.now) }
 {
     out.push_str(KOTLIN_PACKAGE)?;
-    out.push_str(first.as_str())?;
+    push_name(out, first)?;
     push_parts(out, parts)?;
     out.push_str(KOTLIN_PACKAGE_END)
 }
@@ -58,14 +136,14 @@ fn push_part(out: &mut Text, part: &Name) -> Result<(), NoMemory>
     ensures { OnOk result (out.new ≡ out.old ++ part_text part.now) }
 {
     out.push_str(KOTLIN_DOT)?;
-    out.push_str(part.as_str())
+    push_name(out, part)
 }
 
 fn push_class(alloc: Global, out: &mut Text, class: &KClass) -> Result<(), NoMemory>
     ensures { OnOk result (out.new ≡ out.old ++ class_text class.now) }
 {
     out.push_str(KOTLIN_CLASS)?;
-    out.push_str(class.name.as_str())?;
+    push_name(out, &class.name)?;
     out.push_str(KOTLIN_CLASS_OPEN)?;
     push_main(alloc, out, &class.main)?;
     out.push_str(KOTLIN_CLASS_END)
@@ -90,10 +168,10 @@ fn push_some_main(alloc: Global, out: &mut Text, main: &KMain) -> Result<(), NoM
 
 /// What stands before the statements of `main`.
 fn push_head(out: &mut Text, parameter: &Name) -> Result<(), NoMemory>
-    ensures { OnOk result (out.new ≡ out.old ++ KOTLIN_MAIN.now ++ parameter.now ++ KOTLIN_MAIN_OPEN.now) }
+    ensures { OnOk result (out.new ≡ out.old ++ KOTLIN_MAIN.now ++ name_text parameter.now ++ KOTLIN_MAIN_OPEN.now) }
 {
     out.push_str(KOTLIN_MAIN)?;
-    out.push_str(parameter.as_str())?;
+    push_name(out, parameter)?;
     out.push_str(KOTLIN_MAIN_OPEN)
 }
 
@@ -112,7 +190,7 @@ fn push_statement(alloc: Global, out: &mut Text, statement: &KStmt) -> Result<()
     match statement {
         KStmt::Val(name, value) => {
             out.push_str(KOTLIN_VAL)?;
-            out.push_str(name.as_str())?;
+            push_name(out, name)?;
             out.push_str(KOTLIN_IS)?;
             push_expression(alloc, out, value)?;
             out.push_str(KOTLIN_VAL_END)
@@ -130,7 +208,7 @@ fn push_expression(alloc: Global, out: &mut Text, value: &KExpr) -> Result<(), N
     ensures { OnOk result (out.new ≡ out.old ++ expression_text value.now) }
 {
     match value {
-        KExpr::Local(name) => out.push_str(name.as_str()),
+        KExpr::Local(name) => push_name(out, name),
         KExpr::Number(number) => push_number(alloc, out, u64::from(*number)),
         KExpr::Paren(inner) => {
             out.push_str(OPEN)?;

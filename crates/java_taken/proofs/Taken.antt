@@ -49,24 +49,17 @@ use Rattle.java_typed.specs.declared.units.TClass.{TClass}
 use Rattle.java_typed.specs.declared.units.TUnit.{TUnit}
 use Rattle.meanings.specs.Taken as m
 use Rattle.meanings.specs.Taken.{is_taken, Statement, Declares, Prints, Untaken, MainMethod, MainClass}
-use Rattle.meanings.specs.declared.kotlin.KMain.{KMain}
-use Rattle.meanings.specs.declared.kotlin.KClass.{KClass}
 use Rattle.meanings.specs.Values.{same_name, is_among}
-use Rattle.meanings.specs.Convert as to
-use Rattle.meanings.specs.KSpells.{IsIdentifier, AreIdentifiers, DeclareNoKeyword, MainHasNoKeyword, ClassHasNoKeyword, AreNoKeywords, HasNoKeyword}
+use Rattle.meanings.specs.KSpells.{IsName, AreNames}
 use Rattle.meanings.specs.JTyped.{Knows, AreTyped, MainIsTyped, ClassIsTyped, IsTypedFile}
 use Rattle.meanings.specs.JNamed.{IsNamed, AreNamed, MainIsNamed, ClassIsNamed, JNamed}
-use Rattle.java_keywords.specs.Words.{word_kind}
-use Rattle.kotlin_words.specs.Words.{hard_keywords, reserved_names, contains_word}
-use Rattle.java_lib.specs.Library.{classes as library_classes}
-use Rattle.java_lib.specs.Classes.{class_simple}
 use Rattle.java_taken.specs.Judged.{Judged, ◌>>=◌}
-use Rattle.java_taken.specs.Names.{is_plain, is_reserved, is_free, contains_name}
+use Rattle.java_taken.specs.Names.{is_identifier, is_reserved, is_free, hides, is_variable, contains_name}
 use Rattle.java_taken.specs.Places.{statement_at, member_at}
 use Rattle.java_taken.specs.Expressions.{expression}
 use Rattle.java_taken.specs.Statements.{may_declare, is_out, is_int, printed, called, declares, println, prints, valued, declared, simple_of, statement_of, declared_by, with_declared, names_after, statement, statements}
 use Rattle.java_taken.specs.Units as u
-use Rattle.java_taken.proofs.Typing.{typed_is, bind_typed, if_typed, both, identifier, SameLocals, ArePlain, int_is, typed_expression}
+use Rattle.java_taken.proofs.Typing.{typed_is, bind_typed, if_typed, both, identifier, SameLocals, AreIdentifiers, int_is, typed_expression}
 
 -- ---- names
 
@@ -83,30 +76,20 @@ chosen : (a b : Bool) → cond a true b ≡ (a || b)
 chosen true b = refl
 chosen false b = refl
 
-among_any : (names : List (List ℕ)) (name : List ℕ) → is_among names name ≡ list_any (bytes_eq name) names
-among_any [] name = refl
-among_any (first ∷ names) name = chosen (same_name first name) (is_among names name) ∙ ap (λ t. t || is_among names name) (same_bytes first name) ∙ ap (λ t. bytes_eq name first || t) (among_any names name)
-
-third_false : (a b c d e : Bool) → not (a || b || c || d || e) ≡ true → c ≡ false
-third_false true b c d e h = cc
-third_false false true c d e h = cc
-third_false false false true d e h = cc
-third_false false false false d e h = refl
-
-not_keyword : (word : List ℕ) → not (is_reserved word) ≡ true → is_among hard_keywords word ≡ false
-unfolding is_reserved
-not_keyword word not_reserved =
-    among_any hard_keywords word ∙ third_false (is_some (word_kind word)) (bytes_eq word (codes "java")) (contains_word hard_keywords word) (contains_word reserved_names word) (is_some (class_simple word library_classes)) not_reserved
-
 record Free (name : List ℕ) : Type 0 where
-  plain : is_plain name ≡ true
-  identifies : IsIdentifier name
-  keyword : is_among hard_keywords name ≡ false
+  identifies : is_identifier name ≡ true
+  named : IsName name
 
 free : (name : List ℕ) → is_free name ≡ true → Free name
 free name is =
-    let two = both (is_plain name) (not (is_reserved name)) is in
-    record { plain = two.0; identifies = identifier name two.0; keyword = not_keyword name two.1 }
+    let two = both (is_identifier name) (not (is_reserved name)) is in
+    record { identifies = two.0; named = identifier name two.0 }
+
+identified : (name : List ℕ) → is_identifier name ≡ true → Free name
+identified name is = record { identifies = is; named = identifier name is }
+
+variable : (name : List ℕ) → is_variable name ≡ true → Free name
+variable name is = identified name (both (is_identifier name) (not (hides name)) is).0
 
 not_true : (a : Bool) → not a ≡ true → a ≡ false
 not_true true e = cc
@@ -129,13 +112,13 @@ one_more locals names name same = λ other.
 equal_bytes : (a b : List ℕ) → bytes_eq a b ≡ true → a ≡ b
 equal_bytes a b e = grind (arith, nat_tests, bytes_eq-Decides a b)
 
-plain_more : (names : List (List ℕ)) (name : List ℕ) → ArePlain names → is_plain name ≡ true → ArePlain (names ++ name ∷ [])
-plain_more names name plain is other among =
+identifier_more : (names : List (List ℕ)) (name : List ℕ) → AreIdentifiers names → is_identifier name ≡ true → AreIdentifiers (names ++ name ∷ [])
+identifier_more names name identify is other among =
     by_test (contains_name names other) (bytes_eq other name) refl refl (sym (list_any-append (bytes_eq other) names (name ∷ [])) ∙ among)
   where
-    by_test : (a b : Bool) → contains_name names other ≡ a → bytes_eq other name ≡ b → (a || (b || false)) ≡ true → is_plain other ≡ true
-    by_test true b e f h = plain other e
-    by_test false true e f h = ap is_plain (equal_bytes other name f) ∙ is
+    by_test : (a b : Bool) → contains_name names other ≡ a → bytes_eq other name ≡ b → (a || (b || false)) ≡ true → is_identifier other ≡ true
+    by_test true b e f h = identify other e
+    by_test false true e f h = ap is_identifier (equal_bytes other name f) ∙ is
     by_test false false e f h = cc
 
 -- ---- the trees that are made
@@ -216,27 +199,26 @@ Owes parameter locals s = IsDeclared parameter locals s ⊎ IsPrinted locals s
 record Body (parameter : List ℕ) (locals : List (List ℕ)) (body : List Statement) : Type 0 where
   typed : AreTyped parameter locals body
   named : AreNamed body
-  keywords : DeclareNoKeyword (map to.statement_of body)
   taken : m.are_taken body ≡ true
 
 module _ (classes : List (List ℕ)) (parameter : List ℕ) where
-  module _ (locals names : List (List ℕ)) (same : SameLocals locals names) (plain : ArePlain names) (at : Position) where
+  module _ (locals names : List (List ℕ)) (same : SameLocals locals names) (identify : AreIdentifiers names) (at : Position) where
     typed_valued : (d : ℕ) (x : JDeclarator) (o : Option JValue) → value_stands d o → (s : TStatement) → valued classes parameter names at x o ≡ Judged.Typed s → Owes parameter locals s
     typed_valued d x None stands s is = absurd (cc is)
     typed_valued d x (Some value) stands s is =
         let parts = if_typed (may_declare classes parameter names x.name) (expression names value.tree >>= (λ e. Judged.Typed (declares at x.name x.at e))) x.at s is in
         let first = bind_typed (expression names value.tree) (λ e. Judged.Typed (declares at x.name x.at e)) s parts.1 in
-        let good = typed_expression locals names same plain d 0 value.tree stands first.0 first.1 in
-        let last = both (is_free x.name && not (contains_name classes x.name) && not (bytes_eq x.name parameter)) (not (contains_name names x.name)) parts.0 in
-        let before = both (is_free x.name && not (contains_name classes x.name)) (not (bytes_eq x.name parameter)) last.0 in
-        let start = both (is_free x.name) (not (contains_name classes x.name)) before.0 in
+        let good = typed_expression locals names same identify d 0 value.tree stands first.0 first.1 in
+        let last = both (is_variable x.name && not (contains_name classes x.name) && not (bytes_eq x.name parameter)) (not (contains_name names x.name)) parts.0 in
+        let before = both (is_variable x.name && not (contains_name classes x.name)) (not (bytes_eq x.name parameter)) last.0 in
+        let start = both (is_variable x.name) (not (contains_name classes x.name)) before.0 in
         inl (record {
           at = at;
           name = x.name;
           name_at = x.at;
           value = first.0;
           is = typed_is _ _ first.2;
-          free = free x.name start.0;
+          free = variable x.name start.0;
           differs = same_bytes parameter x.name ∙ not_true (bytes_eq x.name parameter) before.1;
           new = same x.name ∙ not_true (contains_name names x.name) last.1;
           known = good.known;
@@ -261,7 +243,7 @@ module _ (classes : List (List ℕ)) (parameter : List ℕ) where
     typed_printed d name_at (x ∷ y ∷ xs) all s is = absurd (cc is)
     typed_printed d name_at (x ∷ []) all s is =
         let first = bind_typed (expression names x) (λ e. Judged.Typed (prints at name_at e)) s is in
-        let good = typed_expression locals names same plain d any_level x all.0 first.0 first.1 in
+        let good = typed_expression locals names same identify d any_level x all.0 first.0 first.1 in
         inr (record { at = at; name_at = name_at; value = first.0; is = typed_is _ _ first.2; known = good.known; named = good.named; taken = good.taken })
 
     typed_called : (d : ℕ) (x : JExpr-F JExpr) → stands_by d (TypeStands d) (TypedStands d) (Stands d) x → (s : TStatement) → called names at x ≡ Judged.Typed s → Owes parameter locals s
@@ -321,55 +303,48 @@ module _ (classes : List (List ℕ)) (parameter : List ℕ) where
     typed_form P d (JStatement-F.Try try_at left xs right catches) stands s is = absurd (cc is)
     typed_form P d (JStatement-F.TryFinally try_at left xs right catches finally_at last_left lasts last_right) stands s is = absurd (cc is)
 
-  typed_statement : (locals names : List (List ℕ)) → SameLocals locals names → ArePlain names → (n d : ℕ) (x : JStatement) → NodeStands n d (Node.Statement Role.Inner x) → (s : TStatement)
+  typed_statement : (locals names : List (List ℕ)) → SameLocals locals names → AreIdentifiers names → (n d : ℕ) (x : JStatement) → NodeStands n d (Node.Statement Role.Inner x) → (s : TStatement)
       → statement classes parameter names x ≡ Judged.Typed s → Owes parameter locals s
   unfolding NodeStands statement
-  typed_statement locals names same plain zero d x stands s is = absurd stands
-  typed_statement locals names same plain (suc n) zero x stands s is = absurd stands
-  typed_statement locals names same plain (suc n) (suc d) x stands s is =
-      typed_form locals names same plain (statement_at x) (NodeStands n) d (out-JStatement x) stands s is
+  typed_statement locals names same identify zero d x stands s is = absurd stands
+  typed_statement locals names same identify (suc n) zero x stands s is = absurd stands
+  typed_statement locals names same identify (suc n) (suc d) x stands s is =
+      typed_form locals names same identify (statement_at x) (NodeStands n) d (out-JStatement x) stands s is
 
-  typed_more : (locals names : List (List ℕ)) (s : TStatement) (more : List Statement) → SameLocals locals names → ArePlain names → Owes parameter locals s
-      → ((after : List (List ℕ)) → SameLocals after (names_after names s) → ArePlain (names_after names s) → Body parameter after more) → Body parameter locals (m.statement s ∷ more)
-  typed_more locals names s more same plain (inl owes) rest =
+  typed_more : (locals names : List (List ℕ)) (s : TStatement) (more : List Statement) → SameLocals locals names → AreIdentifiers names → Owes parameter locals s
+      → ((after : List (List ℕ)) → SameLocals after (names_after names s) → AreIdentifiers (names_after names s) → Body parameter after more) → Body parameter locals (m.statement s ∷ more)
+  typed_more locals names s more same identify (inl owes) rest =
       let absent : contains_name names owes.name ≡ false = sym (same owes.name) ∙ owes.new in
       let next : names ++ owes.name ∷ [] ≡ names_after names s = after_new names owes.at owes.name owes.name_at owes.value absent ∙ ap (names_after names) owes.is in
-      let b = rest (owes.name ∷ locals) (subst (SameLocals (owes.name ∷ locals)) next (one_more locals names owes.name same)) (subst ArePlain next (plain_more names owes.name plain owes.free.plain)) in
+      let b = rest (owes.name ∷ locals) (subst (SameLocals (owes.name ∷ locals)) next (one_more locals names owes.name same)) (subst AreIdentifiers next (identifier_more names owes.name identify owes.free.identifies)) in
       let seen : Declares owes.name owes.value ≡ m.statement s = sym (declares_is owes.at owes.name owes.name_at owes.value) ∙ ap m.statement owes.is in
       subst (λ (x : Statement). Body parameter locals (x ∷ more)) seen (record {
         typed = (owes.differs, owes.new, owes.known, b.typed);
-        named = (owes.free.identifies, owes.named, b.named);
-        keywords = (owes.free.keyword, b.keywords);
+        named = (owes.free.named, owes.named, b.named);
         taken = rw (owes.taken, b.taken) refl;
       })
-  typed_more locals names s more same plain (inr owes) rest =
+  typed_more locals names s more same identify (inr owes) rest =
       let next : names ≡ names_after names s = sym (after_prints names owes.at owes.name_at owes.value) ∙ ap (names_after names) owes.is in
-      let b = rest locals (subst (SameLocals locals) next same) (subst ArePlain next plain) in
+      let b = rest locals (subst (SameLocals locals) next same) (subst AreIdentifiers next identify) in
       let seen : Prints owes.value ≡ m.statement s = sym (prints_is owes.at owes.name_at owes.value) ∙ ap m.statement owes.is in
-      subst (λ (x : Statement). Body parameter locals (x ∷ more)) seen (record { typed = (owes.known, b.typed); named = (owes.named, b.named); keywords = b.keywords; taken = rw (owes.taken, b.taken) refl })
+      subst (λ (x : Statement). Body parameter locals (x ∷ more)) seen (record { typed = (owes.known, b.typed); named = (owes.named, b.named); taken = rw (owes.taken, b.taken) refl })
 
-  typed_body : (n d : ℕ) (locals names : List (List ℕ)) → SameLocals locals names → ArePlain names → (xs : List JStatement) → all_stand (NodeStands n) d Role.Inner xs → (body : List TStatement)
+  typed_body : (n d : ℕ) (locals names : List (List ℕ)) → SameLocals locals names → AreIdentifiers names → (xs : List JStatement) → all_stand (NodeStands n) d Role.Inner xs → (body : List TStatement)
       → statements classes parameter names xs ≡ Judged.Typed body → Body parameter locals (map m.statement body)
-  typed_body n d locals names same plain [] stands body is =
-      subst (λ (body : List TStatement). Body parameter locals (map m.statement body)) (typed_is _ _ is) (record { typed = tt; named = tt; keywords = tt; taken = refl })
-  typed_body n d locals names same plain (x ∷ xs) stands body is =
+  typed_body n d locals names same identify [] stands body is =
+      subst (λ (body : List TStatement). Body parameter locals (map m.statement body)) (typed_is _ _ is) (record { typed = tt; named = tt; taken = refl })
+  typed_body n d locals names same identify (x ∷ xs) stands body is =
       let first = bind_typed (statement classes parameter names x) (λ s. statements classes parameter (names_after names s) xs >>= λ more. Judged.Typed (s ∷ more)) body is in
       let second = bind_typed (statements classes parameter (names_after names first.0) xs) (λ more. Judged.Typed (first.0 ∷ more)) body first.2 in
       subst (λ (body : List TStatement). Body parameter locals (map m.statement body)) (typed_is _ _ second.2)
-      (typed_more locals names first.0 (map m.statement second.0) same plain (typed_statement locals names same plain n d x stands.0 first.0 first.1)
-      (λ after same plain. typed_body n d after (names_after names first.0) same plain xs stands.1 second.0 second.1))
+      (typed_more locals names first.0 (map m.statement second.0) same identify (typed_statement locals names same identify n d x stands.0 first.0 first.1)
+      (λ after same identify. typed_body n d after (names_after names first.0) same identify xs stands.1 second.0 second.1))
 
   body_typed : (n d : ℕ) (xs : List JStatement) → block_stands (NodeStands n) d xs → (body : List TStatement) → statements classes parameter [] xs ≡ Judged.Typed body → Body parameter [] (map m.statement body)
   body_typed n zero xs stands body is = absurd stands
   body_typed n (suc d) xs stands body is = typed_body n d [] [] (λ name. refl) (λ name among. cc) xs stands body is
 
 -- ---- members
-
-abbrev to_main : Option MainMethod → Option KMain
-to_main = option_map to.main_of
-
-abbrev to_class : Option MainClass → Option KClass
-to_class = option_map to.class_of
 
 record MainGood (method : TMethod) : Type 0 where
   main : MainMethod
@@ -381,26 +356,24 @@ record MainGood (method : TMethod) : Type 0 where
 record Mains (ms : List TMethod) : Type 0 where
   typed : MainIsTyped (m.main_in ms)
   named : MainIsNamed (m.main_in ms)
-  keywords : MainHasNoKeyword (to_main (m.main_in ms))
   taken : m.are_taken_methods ms ≡ true
 
 mains_of : (method : TMethod) → MainGood method → Mains (method ∷ [])
 mains_of method good = record {
   typed = subst MainIsTyped (sym good.is) good.body.typed;
-  named = subst MainIsNamed (sym good.is) (good.free.identifies, good.body.named);
-  keywords = subst (λ (o : Option MainMethod). MainHasNoKeyword (to_main o)) (sym good.is) (good.free.keyword, good.body.keywords);
+  named = subst MainIsNamed (sym good.is) (good.free.named, good.body.named);
   taken = ap m.is_taken_main good.is ∙ good.body.taken;
 }
 
 module _ (classes : List (List ℕ)) where
   typed_main : (n d : ℕ) (first at : Position) (x : JTypedParam) (xs : List JStatement) (closes : Position) → block_stands (NodeStands n) d xs → (main : TMethod) → u.main_of classes first at x xs closes ≡ Judged.Typed main → MainGood main
   typed_main n d first at x xs closes stands main is =
-      let parts = if_typed (is_free x.name && not (contains_name classes x.name)) (statements classes x.name [] xs >>= λ body. Judged.Typed (u.main_method first at x body closes)) x.at main is in
+      let parts = if_typed (is_variable x.name && not (contains_name classes x.name)) (statements classes x.name [] xs >>= λ body. Judged.Typed (u.main_method first at x body closes)) x.at main is in
       let found = bind_typed (statements classes x.name [] xs) (λ body. Judged.Typed (u.main_method first at x body closes)) main parts.1 in
       subst MainGood (typed_is _ _ found.2) (record {
         main = record { parameter = x.name; body = map m.statement found.0 };
         is = main_is first at x found.0 closes;
-        free = free x.name (both (is_free x.name) (not (contains_name classes x.name)) parts.0).0;
+        free = variable x.name (both (is_variable x.name) (not (contains_name classes x.name)) parts.0).0;
         body = body_typed classes x.name n d xs stands found.0 found.1;
       })
 
@@ -428,7 +401,7 @@ module _ (classes : List (List ℕ)) where
   typed_member (suc n) owner x stands main is = member_form n owner (member_at x) (out-JMember x) stands main is
 
   typed_members : (n : ℕ) (owner : Owner) (xs : List JMember) → AllByRecursion (TopStands n owner) xs → (ms : List TMethod) → u.members classes xs ≡ Judged.Typed ms → Mains ms
-  typed_members n owner [] all ms is = subst Mains (typed_is _ _ is) (record { typed = tt; named = tt; keywords = tt; taken = refl })
+  typed_members n owner [] all ms is = subst Mains (typed_is _ _ is) (record { typed = tt; named = tt; taken = refl })
   typed_members n owner (x ∷ []) all ms is =
       let first = bind_typed (u.member classes x) (λ main. Judged.Typed (main ∷ [])) ms is in
       subst Mains (typed_is _ _ first.2) (mains_of first.0 (typed_member n owner x all.0 first.0 first.1))
@@ -441,7 +414,6 @@ module _ (classes : List (List ℕ)) where
 record Classes (cs : List TClass) : Type 0 where
   typed : ClassIsTyped (m.class_among cs)
   named : ClassIsNamed (m.class_among cs)
-  keywords : ClassHasNoKeyword (to_class (m.class_among cs))
   taken : m.are_taken_classes cs ≡ true
 
 module _ (classes earlier : List (List ℕ)) (path : List ℕ) where
@@ -453,7 +425,7 @@ module _ (classes earlier : List (List ℕ)) (path : List ℕ) where
       let mains = typed_members classes n owner xs all first.0 first.1 in
       let new = both (is_free name && not (contains_name earlier name)) (u.is_file_of path name) parts.0 in
       let f = free name (both (is_free name) (not (contains_name earlier name)) new.0).0 in
-      subst (λ (c : TClass). Classes (c ∷ [])) (typed_is _ _ first.2) (record { typed = mains.typed; named = (f.identifies, mains.named); keywords = (f.keyword, mains.keywords); taken = rw mains.taken refl })
+      subst (λ (c : TClass). Classes (c ∷ [])) (typed_is _ _ first.2) (record { typed = mains.typed; named = (f.named, mains.named); taken = rw mains.taken refl })
 
   typed_headed : (n : ℕ) (owner : Owner) (at : Position) (o : Option u.Named) (xs : List JMember) → AllByRecursion (TopStands n owner) xs → (c : TClass) → u.headed classes earlier path at o xs ≡ Judged.Typed c
       → Classes (c ∷ [])
@@ -471,7 +443,7 @@ module _ (classes earlier : List (List ℕ)) (path : List ℕ) where
   typed_top n x stands c is = typed_top_form n (member_at x) (out-JMember x) stands c is
 
   typed_types : (n : ℕ) (xs : List JMember) → AllByRecursion (FileStands n) xs → (cs : List TClass) → u.types classes earlier path xs ≡ Judged.Typed cs → Classes cs
-  typed_types n [] all cs is = subst Classes (typed_is _ _ is) (record { typed = tt; named = tt; keywords = tt; taken = refl })
+  typed_types n [] all cs is = subst Classes (typed_is _ _ is) (record { typed = tt; named = tt; taken = refl })
   typed_types n (x ∷ []) all cs is =
       let first = bind_typed (u.top classes earlier path x) (λ class. Judged.Typed (class ∷ [])) cs is in
       subst Classes (typed_is _ _ first.2) (typed_top n x all.0 first.0 first.1)
@@ -481,24 +453,23 @@ module _ (classes earlier : List (List ℕ)) (path : List ℕ) where
 -- ---- packages
 
 record Parts (names : List (List ℕ)) : Type 0 where
-  identify : AreIdentifiers names
-  keywords : AreNoKeywords names
+  identify : AreNames names
 
 typed_part : (name : List ℕ) (at : Position) (n : List ℕ) → u.part_of name at ≡ Judged.Typed n → Free n
-typed_part name at n is = let parts = if_typed (is_free name) (Judged.Typed name) at n is in subst Free (typed_is _ _ parts.1) (free name parts.0)
+typed_part name at n is = let parts = if_typed (is_identifier name) (Judged.Typed name) at n is in subst Free (typed_is _ _ parts.1) (identified name parts.0)
 
 part_more : (name : List ℕ) (names : List (List ℕ)) → Free name → Parts names → Parts (name ∷ names)
-part_more name names f more = record { identify = (f.identifies, more.identify); keywords = (f.keyword, more.keywords) }
+part_more name names f more = record { identify = (f.named, more.identify) }
 
 typed_parts : (xs : List JDotted) (names : List (List ℕ)) → u.parts_of xs ≡ Judged.Typed names → Parts names
-typed_parts [] names is = subst Parts (typed_is _ _ is) (record { identify = tt; keywords = tt })
+typed_parts [] names is = subst Parts (typed_is _ _ is) (record { identify = tt })
 typed_parts (x ∷ xs) names is =
     let first = bind_typed (u.part_of x.name x.at) (λ name. u.parts_of xs >>= λ names. Judged.Typed (name ∷ names)) names is in
     let second = bind_typed (u.parts_of xs) (λ names. Judged.Typed (first.0 ∷ names)) names first.2 in
     subst Parts (typed_is _ _ second.2) (part_more first.0 second.0 (typed_part x.name x.at first.0 first.1) (typed_parts xs second.0 second.1))
 
 typed_package : (o : Option JPackage) (names : List (List ℕ)) → u.package_of o ≡ Judged.Typed names → Parts names
-typed_package None names is = subst Parts (typed_is _ _ is) (record { identify = tt; keywords = tt })
+typed_package None names is = subst Parts (typed_is _ _ is) (record { identify = tt })
 typed_package (Some x) names is =
     let first = bind_typed (u.part_of x.name.name x.name.at) (λ name. u.parts_of x.name.rest >>= λ names. Judged.Typed (name ∷ names)) names is in
     let second = bind_typed (u.parts_of x.name.rest) (λ names. Judged.Typed (first.0 ∷ names)) names first.2 in
@@ -509,7 +480,6 @@ typed_package (Some x) names is =
 pub record FileGood (unit : TUnit) : Type 0 where
   pub typed : IsTypedFile unit
   pub named : JNamed unit
-  pub keywords : HasNoKeyword (to.file_of unit)
   pub taken : m.is_taken_unit unit ≡ true
 
 file_good : (path : List ℕ) (names : List (List ℕ)) (cs : List TClass) → Parts names → Classes cs → FileGood (u.unit_of path names cs)
@@ -517,7 +487,6 @@ unfolding m.is_taken_unit
 file_good path names cs parts class = record {
   typed = class.typed;
   named = record { parts = parts.identify; class = class.named };
-  keywords = (parts.keywords, class.keywords);
   taken = class.taken;
 }
 

@@ -2,7 +2,6 @@
 use Rattle.std.proofs.Common.{◌≡◌, ◌<◌, ◌≤◌, ◌+◌, ◌^◌, ◌⊎◌, inl, inr, ℕ, zero, suc, pos, Bool, true, false, cond, ◌&&◌, not, List, [], ◌∷◌, length, Some, refl, sym, ◌∙◌, ap, subst, arith}
 use Rattle.std.specs.Prelude.{◌==◌, nat_le}
 use Rattle.std.specs.List.{list_all}
-use Rattle.std.specs.Char.{is_ascii_alphabetic, is_ascii_alphanumeric}
 use Rattle.std.proofs.lemmas.Bool.Decides.{nat_tests}
 use Rattle.java_tree.specs.declared.tokens.Position.{Position}
 use Rattle.java_tree.specs.declared.exprs.JLiteral.{JLiteral}
@@ -26,11 +25,11 @@ use Rattle.java_typed.specs.declared.exprs.TExpr.TheVariants as t
 use Rattle.meanings.specs.Taken.{is_int_by, is_int, is_operator, operator_of as spelled, is_taken_by, is_taken}
 use Rattle.meanings.specs.Levels.{level}
 use Rattle.meanings.specs.Values.{is_among}
-use Rattle.meanings.specs.KSpells.{IsWord, IsIdentifier}
+use Rattle.meanings.specs.KSpells.{may_stand, IsName}
 use Rattle.meanings.specs.JTyped.{known_by, Knows}
 use Rattle.meanings.specs.JNamed.{named_by, level_by, level_of, IsNamed}
 use Rattle.java_taken.specs.Judged.{Judged, ◌>>=◌}
-use Rattle.java_taken.specs.Names.{is_plain, contains_name}
+use Rattle.java_taken.specs.Names.{is_identifier, contains_name}
 use Rattle.java_taken.specs.Places.{first_at}
 use Rattle.java_taken.specs.Expressions.{int_type, max_int, operator_of, is_number, local_of, number_of, paren_of, binary_of, operands, form_of, expression}
 use Rattle.java_taken.proofs.Forms.{Part, beside, expression_out}
@@ -59,18 +58,9 @@ both false b e = cc
 
 -- ---- names
 
-words : (bytes : List ℕ) → list_all is_ascii_alphanumeric bytes ≡ true → IsWord bytes
-words [] all = tt
-words (byte ∷ bytes) all =
-    let two = both (is_ascii_alphanumeric byte) (list_all is_ascii_alphanumeric bytes) all in (two.0, words bytes two.1)
-
-pub identifier : (name : List ℕ) → is_plain name ≡ true → IsIdentifier name
+pub identifier : (name : List ℕ) → is_identifier name ≡ true → IsName name
 identifier [] is = cc
-identifier (byte ∷ name) is =
-    let two = both (not (length (byte ∷ name) == 0) && is_ascii_alphabetic byte) (list_all is_ascii_alphanumeric (byte ∷ name)) is in (
-      (both (not (length (byte ∷ name) == 0)) (is_ascii_alphabetic byte) two.0).1,
-      words name (both (is_ascii_alphanumeric byte) (list_all is_ascii_alphanumeric name) two.1).1,
-    )
+identifier (byte ∷ name) is = (both (not (length (byte ∷ name) == 0)) (list_all may_stand (byte ∷ name)) is).1
 
 small : (n : ℕ) → nat_le n max_int ≡ true → n < 2 ^ 31
 small n e = grind (arith, nat_tests)
@@ -79,9 +69,9 @@ small n e = grind (arith, nat_tests)
 abbrev pub SameLocals : List (List ℕ) → List (List ℕ) → Type 0
 SameLocals locals names = (name : List ℕ) → is_among locals name ≡ contains_name names name
 
--- each of the names is plain
-abbrev pub ArePlain : List (List ℕ) → Type 0
-ArePlain names = (name : List ℕ) → contains_name names name ≡ true → is_plain name ≡ true
+-- each of the names is an identifier
+abbrev pub AreIdentifiers : List (List ℕ) → Type 0
+AreIdentifiers names = (name : List ℕ) → contains_name names name ≡ true → is_identifier name ≡ true
 
 -- ---- typed expressions, form by form
 
@@ -143,12 +133,12 @@ pub record Good (locals : List (List ℕ)) (place : ℕ) (e : TExpr) : Type 0 wh
   pub taken : is_taken e ≡ true
   pub level : Level place (level_of e)
 
-module _ (locals names : List (List ℕ)) (same : SameLocals locals names) (plain : ArePlain names) where
+module _ (locals names : List (List ℕ)) (same : SameLocals locals names) (identify : AreIdentifiers names) where
   good_local : (place : ℕ) → place ≤ 16 → (name : List ℕ) (at : Position) → contains_name names name ≡ true → Good locals place (t.Local name at int_type)
   unfolding Knows IsNamed
   good_local place low name at is = record {
     known = every_local (known_by locals) name at int_type (same name ∙ is);
-    named = every_local named_by name at int_type (identifier name (plain name is));
+    named = every_local named_by name at int_type (identifier name (identify name is));
     taken = taken_is (TExpr-F.Local name at int_type) (t.Local name at int_type) (t.rolls-Local name at int_type) ∙ int_is;
     level = inl (low, level_is (TExpr-F.Local name at int_type) (t.Local name at int_type) (t.rolls-Local name at int_type));
   }

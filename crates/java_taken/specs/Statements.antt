@@ -32,14 +32,14 @@ use Rattle.java_typed.specs.declared.statements.TSimple.TheVariants as does
 use Rattle.java_typed.specs.declared.statements.TStatement.{TStatement, out-TStatement}
 use Rattle.java_typed.specs.declared.statements.TStatement.TheVariants as made
 use Rattle.java_taken.specs.Judged.{Judged, ◌>>=◌}
-use Rattle.java_taken.specs.Names.{is_free, contains_name}
+use Rattle.java_taken.specs.Names.{is_variable, contains_name}
 use Rattle.java_taken.specs.Places.{statement_at}
 use Rattle.java_taken.specs.Expressions.{int_type, expression}
 
 -- the name of a local: none of a class of the project, of the parameter, or of a local that is declared before (JLS 6.4)
 abbrev pub may_declare : List (List ℕ) → List ℕ → List (List ℕ) → List ℕ → Bool
 may_declare classes parameter names name =
-    is_free name && not (contains_name classes name) && not (bytes_eq name parameter) && not (contains_name names name)
+    is_variable name && not (contains_name classes name) && not (bytes_eq name parameter) && not (contains_name names name)
 
 -- `System.out` (JLS 6.5.6.2)
 abbrev pub is_system_by : JExpr-F JExpr → Bool

@@ -47,7 +47,7 @@ use Rattle.java_typed.specs.declared.units.TUnit.{TUnit}
 use Rattle.java_taken.specs.declared.judged.Judged.{Judged as Answer}
 use Rattle.java_taken.specs.declared.judged.Judged.TheVariants as answer
 use Rattle.java_taken.specs.Judged.{Judged, ◌>>=◌}
-use Rattle.java_taken.specs.Names.{is_free, contains_name}
+use Rattle.java_taken.specs.Names.{is_free, is_identifier, is_variable, contains_name}
 use Rattle.java_taken.specs.Places.{nowhere, type_at, member_at}
 use Rattle.java_taken.specs.Statements.{statements}
 
@@ -181,7 +181,7 @@ module _ (classes : List (List ℕ)) where
   -- the name of a parameter comes before the statements
   abbrev pub main_of : Position → Position → JTypedParam → List JStatement → Position → Judged TMethod
   main_of first at x xs closes =
-      if is_free x.name && not (contains_name classes x.name)
+      if is_variable x.name && not (contains_name classes x.name)
       then (statements classes x.name [] xs >>= λ body. Judged.Typed (main_method first at x body closes))
       else Judged.Open x.at
 
@@ -254,7 +254,7 @@ module _ (classes earlier : List (List ℕ)) (path : List ℕ) where
 -- ---- a package line (JLS 7.4.1), whose names come first
 
 abbrev pub part_of : List ℕ → Position → Judged (List ℕ)
-part_of name at = if is_free name then Judged.Typed name else Judged.Open at
+part_of name at = if is_identifier name then Judged.Typed name else Judged.Open at
 
 abbrev pub parts_of : List JDotted → Judged (List (List ℕ))
 parts_of [] = Judged.Typed []

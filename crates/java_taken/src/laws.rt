@@ -6,10 +6,8 @@ ghost use Rattle.java_unit_grammar.specs.Standing.{UnitSpells};
 ghost use Rattle.java_unit_grammar.specs.declared.units.JUnit.{JUnit};
 ghost use Rattle.java_typed.specs.declared.units.TUnit.{TUnit};
 ghost use Rattle.meanings.specs.Taken.{MainClass, class_in, is_taken_unit};
-ghost use Rattle.meanings.specs.Convert.{file_of};
 ghost use Rattle.meanings.specs.JNamed.{JNamed};
 ghost use Rattle.meanings.specs.JTyped.{IsTypedFile};
-ghost use Rattle.meanings.specs.KSpells.{HasNoKeyword};
 ghost use Rattle.java_taken.specs.Judged as j;
 ghost use Rattle.java_taken.specs.Units.{unit, may_name};
 
@@ -26,11 +24,6 @@ pub fn is_typed()
 /// Its names, numbers and operands are spelled alike in both languages (JLS 3.8, 3.10.1, 15.17, 15.18).
 pub fn is_named()
     ensures { (classes earlier : List (List ℕ)) (x : JUnit) (f : TUnit) (text : Tokens) → unit classes earlier x ≡ j.Judged.Typed f → UnitSpells x text → JNamed f }
-{}
-
-/// No name of its Kotlin is a hard keyword.
-pub fn has_no_keyword()
-    ensures { (classes earlier : List (List ℕ)) (x : JUnit) (f : TUnit) (text : Tokens) → unit classes earlier x ≡ j.Judged.Typed f → UnitSpells x text → HasNoKeyword (file_of f) }
 {}
 
 /// Its class has the name of its file, and no class of an earlier file has it (own rule where JLS 7.6 leaves it open).

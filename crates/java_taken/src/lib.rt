@@ -11,6 +11,6 @@ mod units;
 mod words;
 
 pub use judged::Judged;
-pub use laws::{has_no_keyword, is_named, is_taken, is_typed, may_be_named};
+pub use laws::{is_named, is_taken, is_typed, may_be_named};
 pub use names::Names;
 pub use units::judge;

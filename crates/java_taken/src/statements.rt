@@ -10,7 +10,7 @@ use crate::expressions::expression;
 use crate::judged::Refusal;
 use crate::names::Names;
 use crate::places::statement_at;
-use crate::words::{OUT, PRINTLN, SYSTEM, is_free};
+use crate::words::{OUT, PRINTLN, SYSTEM, is_variable};
 use j2k_base::{Kind, Name, NoMemory};
 use java_statement_grammar::{JDeclaration, JDeclarator, JSimple};
 use java_tree::{JExpr, JType, Position, Primitive};
@@ -26,7 +26,7 @@ use std::alloc::Global;
 fn may_declare(classes: &Names, parameter: &Name, names: &Names, name: &Name) -> bool
     ensures { result ≡ s.may_declare classes.now parameter.now names.now name.now }
 {
-    is_free(name.as_bytes())
+    is_variable(name.as_bytes())
         && !classes.contains(name.as_str())
         && name.as_bytes() != parameter.as_bytes()
         && !names.contains(name.as_str())

@@ -9,7 +9,7 @@ use crate::judged::{Judged, Refusal};
 use crate::names::Names;
 use crate::places::{member_at, type_at};
 use crate::statements::statements;
-use crate::words::{JAVA_END, MAIN, SLASH, STRING, is_free};
+use crate::words::{JAVA_END, MAIN, SLASH, STRING, is_free, is_identifier, is_variable};
 use j2k_base::{Name, NoMemory, Text};
 use java_member_grammar::{
     JImport, JMemberHead, JModifier, JPackage, JResult, JTypeHead, ModifierKind,
@@ -172,7 +172,7 @@ fn main_of(
 ) -> Result<Boxed<TMethod>, Refusal>
     ensures { Judges (s.main_of classes.now first at x.now xs.now closes) result }
 {
-    if !is_free(x.name.as_bytes()) || classes.contains(x.name.as_str()) {
+    if !is_variable(x.name.as_bytes()) || classes.contains(x.name.as_str()) {
         return Err(Refusal::Open(x.at));
     }
     let body = statements(alloc, classes, &x.name, xs)?;
@@ -446,7 +446,7 @@ fn types(
 fn part(alloc: Global, name: &Name, at: Position) -> Result<Name, Refusal>
     ensures { Judges (s.part_of name.now at) result }
 {
-    if !is_free(name.as_bytes()) {
+    if !is_identifier(name.as_bytes()) {
         return Err(Refusal::Open(at));
     }
     let name = Name::from_str(alloc, name.as_str())?;

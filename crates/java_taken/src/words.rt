@@ -1,12 +1,12 @@
 // Which names are taken.
 ghost use Rattle.std.specs.Prelude.{◌≡◌};
 ghost use Rattle.std.specs.List.{list_all};
-ghost use Rattle.std.specs.Char.{is_ascii_alphanumeric};
+ghost use Rattle.meanings.specs.KSpells as k;
 ghost use Rattle.java_taken.specs.Names as n;
 
 use java_keywords::word_kind;
 use java_lib::simple_row;
-use kotlin_words::{is_hard_keyword, is_reserved_name};
+use kotlin_words::is_reserved_name;
 
 // The root of the packages of Java's library.
 pub(crate) const JAVA: &str = "java";
@@ -26,17 +26,27 @@ pub(crate) const SLASH: &str = "/";
 // The end of the name of a source file.
 pub(crate) const JAVA_END: &str = ".java";
 
-/// Whether the bytes are ASCII letters and digits that begin with a letter.
-fn is_plain(bytes: &[u8]) -> bool
-    ensures { result ≡ n.is_plain bytes.now }
+/// Whether a byte may stand in backticks.
+fn may_stand(byte: u8) -> bool
+    ensures { result ≡ k.may_stand byte }
 {
-    !bytes.is_empty() && bytes[0].is_ascii_alphabetic() && are_alphanumeric(bytes)
+    !matches!(
+        byte,
+        b'`' | b'.' | b';' | b'/' | b'[' | b']' | b'<' | b'>' | b':' | b'\\' | b'\n' | b'\r'
+    )
 }
 
-fn are_alphanumeric(bytes: &[u8]) -> bool
-    ensures { result ≡ list_all is_ascii_alphanumeric bytes.now }
+fn may_all_stand(bytes: &[u8]) -> bool
+    ensures { result ≡ list_all k.may_stand bytes.now }
 {
-    bytes.iter().all(|byte| byte.is_ascii_alphanumeric())
+    bytes.iter().all(|byte| may_stand(*byte))
+}
+
+/// Whether there are bytes, and each may stand in backticks: a part of a package's name is free (JLS 3.8).
+pub(crate) fn is_identifier(bytes: &[u8]) -> bool
+    ensures { result ≡ n.is_identifier bytes.now }
+{
+    !bytes.is_empty() && may_all_stand(bytes)
 }
 
 #[tactic(auto, unfolding(crate::specs::Names::is_reserved))]
@@ -45,14 +55,27 @@ fn is_reserved(word: &[u8]) -> bool
 {
     word_kind(word).is_some()
         || word == JAVA.as_bytes()
-        || is_hard_keyword(word)
         || is_reserved_name(word)
         || simple_row(word).is_some()
 }
 
-/// Whether a package, a class, a parameter or a local may have the name (JLS 3.8, 3.9).
+/// Whether a class may have the name (JLS 3.8, 3.9).
 pub(crate) fn is_free(name: &[u8]) -> bool
     ensures { result ≡ n.is_free name.now }
 {
-    is_plain(name) && !is_reserved(name)
+    is_identifier(name) && !is_reserved(name)
+}
+
+#[tactic(auto, unfolding(crate::specs::Names::hides))]
+fn hides(name: &[u8]) -> bool
+    ensures { result ≡ n.hides name.now }
+{
+    name == JAVA.as_bytes() || simple_row(name).is_some()
+}
+
+/// Whether a parameter or a local may have the name.
+pub(crate) fn is_variable(name: &[u8]) -> bool
+    ensures { result ≡ n.is_variable name.now }
+{
+    is_identifier(name) && !hides(name)
 }

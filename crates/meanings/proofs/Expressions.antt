@@ -2,16 +2,15 @@
 use Rattle.std.proofs.Common.{◌≡◌, ℕ, zero, suc, ◌+◌, ◌<◌, ◌≤◌, false, List, [], ◌∷◌, ◌++◌, refl, sym, ap, ◌∙◌, subst, arith, append_assoc}
 use Rattle.std.proofs.lemmas.List.{append_cancel_left}
 use Rattle.std.specs.Prelude.{slice_index}
-use Rattle.std.specs.Char.{is_ascii_alphanumeric}
 use Rattle.meanings.specs.declared.operators.Operator.{Operator}
 use Rattle.meanings.specs.declared.operators.Operator.TheVariants.{Plus, Minus, Times}
 use Rattle.meanings.specs.declared.kotlin.KExpr.{KExpr, out-KExpr}
 use Rattle.meanings.specs.declared.kotlin.KExpr.TheOpen.{KExpr-F}
 use Rattle.meanings.specs.Levels.{level}
-use Rattle.meanings.specs.KText.{operator_text, expression_text}
+use Rattle.meanings.specs.KText.{is_word_byte, operator_text, expression_text}
 use Rattle.meanings.specs.KSpells.{level_by, level_of, stands_by, IsExpression}
 use Rattle.meanings.proofs.Layers.{k_local, k_number, k_paren, k_binary, kotlin_induct, text_at, level_at, here, in_paren, in_binary}
-use Rattle.meanings.proofs.Words.{Stops, cut, differ, Word, AName, ANumber, IsOperand, word_text, word_tree, operand_is_word, operand_same, no_paren}
+use Rattle.meanings.proofs.Words.{Stops, differ, Word, AName, ANumber, IsOperand, word_text, word_tree, operand_cut, no_paren}
 
 -- ---- operators
 
@@ -75,8 +74,8 @@ no_two e h same = omega arith
 mutual
   reads_same : {l m : ℕ} {x y : List ℕ} {e f : KExpr} {r s : List ℕ} → Reads l x e r → Reads m y f s → l ≡ m → x ≡ y → (e ≡ f) × (r ≡ s)
   reads_same {r = r} {s = s} (word v h top is stops tree) (word w g top' is' stops' tree') level same =
-      let parts : (word_text v ≡ word_text w) × (r ≡ s) = cut (word_text v) (word_text w) r s (operand_is_word v h) (operand_is_word w g) stops stops' (sym is ∙ same ∙ is') in
-      (tree ∙ ap word_tree (operand_same v w h g parts.0) ∙ sym tree', parts.1)
+      let parts : (v ≡ w) × (r ≡ s) = operand_cut v w r s h g stops stops' (sym is ∙ same ∙ is') in
+      (tree ∙ ap word_tree parts.0 ∙ sym tree', parts.1)
   reads_same {r = r} (word v h top is stops tree) (paren inner y top' is' inside tree') level same = absurd (no_paren v r y h (sym is ∙ same ∙ is'))
   reads_same (word v h top is stops tree) (up a y low first climbs) level same = absurd (no_two top low level)
   reads_same {s = s} (paren inner y top is inside tree) (word w g top' is' stops' tree') level same = absurd (no_paren w s y g (sym is' ∙ sym same ∙ is))
@@ -119,7 +118,7 @@ free_operator o r = record {
 }
 
 -- before a byte that neither goes on a word nor begins an operator
-free_byte : (l d : ℕ) (r : List ℕ) → is_ascii_alphanumeric d ≡ false → (d ≡ 32 → ⊥) → Free l (d ∷ r)
+free_byte : (l d : ℕ) (r : List ℕ) → is_word_byte d ≡ false → (d ≡ 32 → ⊥) → Free l (d ∷ r)
 free_byte l d r stops blank = record { stops = stops; none = λ o z above is. no_operator o d r z blank is }
 
 none_byte : (l d : ℕ) (r : List ℕ) → (d ≡ 32 → ⊥) → NoOperator l (d ∷ r)
@@ -215,7 +214,7 @@ read_again = kotlin_induct (λ e. IsExpression e → Again e) (record {
 
 -- ---- expressions, before a byte that is no word's and no blank
 
-pub expression_same : (d : ℕ) (r s : List ℕ) → is_ascii_alphanumeric d ≡ false → (d ≡ 32 → ⊥) → (e f : KExpr) → IsExpression e → IsExpression f →
+pub expression_same : (d : ℕ) (r s : List ℕ) → is_word_byte d ≡ false → (d ≡ 32 → ⊥) → (e f : KExpr) → IsExpression e → IsExpression f →
     expression_text e ++ (d ∷ r) ≡ expression_text f ++ (d ∷ s) → (e ≡ f) × (r ≡ s)
 expression_same d r s stops blank e f h g same =
     let parts = reads_same

@@ -19,8 +19,9 @@ use Rattle.meanings.specs.declared.kotlin.KExpr.TheOpen.{KExpr-F}
 use Rattle.meanings.specs.declared.kotlin.KExpr.TheVariants as ke
 use Rattle.meanings.specs.Taken.{operator_of, Statement, Declares, Prints, MainMethod, MainClass}
 use Rattle.meanings.specs.Convert.{expression_of, statement_of, class_of, classes_of}
-use Rattle.meanings.specs.KText.{operator_text, expression_text, KText}
+use Rattle.meanings.specs.KText.{is_bare, name_text, operator_text, expression_text, KText}
 use Rattle.meanings.specs.Operators.{operation}
+use Rattle.kotlin_words.specs.Words.{hard_keywords}
 use Rattle.meanings.specs.Values.{Name, Kind, Value, Null, Integer, Units, Int, Print, End, Result, Done}
 use Rattle.meanings.specs.Outcome.{Meaning, pure, ◌>>=◌, ◌>>◌, local, assign}
 use Rattle.meanings.specs.Machine.{Place, print_line, arithmetic, binary, sequence}
@@ -285,7 +286,7 @@ kotlin_nested = ap (run_text (0 ∷ 0 ∷ 0 ∷ []) 1) (fun_ext kotlin_nested_is
 abbrev text_of : TExpr → List ℕ
 text_of e = expression_text (expression_of e)
 
-text_local : (name : Name) → text_of (j_local name) ≡ name
+text_local : (name : Name) → text_of (j_local name) ≡ name_text name
 text_local name = ap text_of (sym (je.rolls-Local name here int)) ∙ ap expression_text (convert_at (TExpr-F.Local name here int)) ∙ text_at (KExpr-F.Local name)
 
 text_number : (n : ℕ) → text_of (j_number n) ≡ decimal n
@@ -300,7 +301,7 @@ text_binary a b o =
 
 -- parentheses are kept
 first_text : text_of first ≡ codes "(a + 2) * 7 - a"
-unfolding digits
+unfolding digits name_text is_bare hard_keywords
 first_text =
     rw (
       text_binary (j_binary (j_paren (j_binary (j_local a) Add (j_number 2))) Mul (j_number 7)) (j_local a) Sub,
@@ -313,7 +314,7 @@ first_text =
     ) refl
 
 second_text : text_of second ≡ codes "a - (7 - a)"
-unfolding digits
+unfolding digits name_text is_bare hard_keywords
 second_text =
     rw (
       text_binary (j_local a) (j_paren (j_binary (j_number 7) Sub (j_local a))) Sub,
@@ -388,17 +389,34 @@ java_no_main = refl
 kotlin_no_main : KotlinRun files (entry_of (codes "C")) input (0 ∷ []) 1 ≡ Missing 0 ∷ []
 kotlin_no_main = refl
 
+-- which names stand in backticks: a hard keyword, one past ASCII, and one of `_` alone
+keyword_text : name_text (codes "when") ≡ codes "`when`"
+unfolding name_text is_bare hard_keywords
+keyword_text = refl
+
+past_ascii_text : name_text (195 ∷ 169 ∷ []) ≡ 96 ∷ 195 ∷ 169 ∷ 96 ∷ []
+unfolding name_text is_bare hard_keywords
+past_ascii_text = refl
+
+underscores_text : name_text (codes "__") ≡ codes "`__`"
+unfolding name_text is_bare hard_keywords
+underscores_text = refl
+
+bare_text : name_text (codes "_my1") ≡ codes "_my1"
+unfolding name_text is_bare hard_keywords
+bare_text = refl
+
 -- the texts of these files: the package and the name of the parameter are kept
 other_text : KText (file_in (a ∷ b ∷ []) other) ≡ codes "package a.b\n\nclass B {\n    companion object {\n        @JvmStatic fun main(x: Array<String>) {\n            println(7)\n        }\n    }\n}\n"
-unfolding KText digits
+unfolding KText digits name_text is_bare hard_keywords
 other_text = rw (text_number 7) refl
 
 plain_text : KText (file_in [] plain) ≡ codes "class C {\n}\n"
-unfolding KText
+unfolding KText name_text is_bare hard_keywords
 plain_text = refl
 
 no_class_text : KText (no_class (a ∷ b ∷ [])) ≡ codes "package a.b\n"
-unfolding KText
+unfolding KText name_text is_bare hard_keywords
 no_class_text = refl
 
 nothing_text : KText (no_class []) ≡ []

@@ -1,6 +1,6 @@
 -- Which bytes spell a Kotlin file of this form.
-use Rattle.std.specs.Prelude.{◌≡◌, ℕ, ◌+◌, ◌≤◌, ◌<◌, ◌^◌, true, false, List, [], ◌∷◌, Option, Some, None}
-use Rattle.std.specs.Char.{is_ascii_alphabetic, is_ascii_alphanumeric}
+use Rattle.std.specs.Prelude.{◌≡◌, ℕ, ◌+◌, ◌≤◌, ◌<◌, ◌^◌, nat_eq, Bool, true, false, not, List, [], ◌∷◌, Option, Some, None, codes}
+use Rattle.std.specs.List.{list_all, list_any}
 use Rattle.meanings.specs.declared.kotlin.KExpr.{KExpr, out-KExpr, every-KExpr}
 use Rattle.meanings.specs.declared.kotlin.KExpr.TheOpen.{KExpr-F}
 use Rattle.meanings.specs.Levels.{level, primary_level}
@@ -9,24 +9,24 @@ use Rattle.meanings.specs.declared.kotlin.KStmt.TheVariants.{Val, Print}
 use Rattle.meanings.specs.declared.kotlin.KMain.{KMain}
 use Rattle.meanings.specs.declared.kotlin.KClass.{KClass}
 use Rattle.meanings.specs.declared.kotlin.KFile.{KFile}
-use Rattle.meanings.specs.KText.{KText}
-use Rattle.meanings.specs.Values.{Name, is_among}
-use Rattle.kotlin_words.specs.Words.{hard_keywords}
+use Rattle.meanings.specs.KText.{name_text, KText}
+use Rattle.meanings.specs.Values.{Name}
+use Rattle.kotlin_words.specs.Words.{hard_keywords, contains_word}
 
--- letters and digits alone
-abbrev pub IsWord : List ℕ → Type 0
-IsWord [] = Unit {0}
-IsWord (byte ∷ more) = (is_ascii_alphanumeric byte ≡ true) × IsWord more
+-- a byte that may stand in backticks (Kotlin, "Identifiers": no backtick and no line end; on the JVM none of `.`, `;`, `/`, `[`, `]`, `<`, `>`,
+-- `:`, `\`)
+abbrev pub may_stand : ℕ → Bool
+may_stand byte = not (list_any (nat_eq byte) (codes "`.;/[]<>:\\\n\r"))
 
--- a letter, then letters and digits (Kotlin, "Identifiers"; this form has no other)
-abbrev pub IsIdentifier : Name → Type 0
-IsIdentifier [] = ⊥
-IsIdentifier (byte ∷ more) = (is_ascii_alphabetic byte ≡ true) × IsWord more
+-- not empty, of bytes that may stand in backticks (Kotlin, "Identifiers")
+abbrev pub IsName : Name → Type 0
+IsName [] = ⊥
+IsName (byte ∷ more) = list_all may_stand (byte ∷ more) ≡ true
 
 -- each part of a qualified name is one
-abbrev pub AreIdentifiers : List Name → Type 0
-AreIdentifiers [] = Unit {0}
-AreIdentifiers (name ∷ names) = IsIdentifier name × AreIdentifiers names
+abbrev pub AreNames : List Name → Type 0
+AreNames [] = Unit {0}
+AreNames (name ∷ names) = IsName name × AreNames names
 
 -- the level of a form: a primary expression, or that of its operator (Kotlin, "Syntax and grammar": additiveExpression, multiplicativeExpression)
 abbrev pub level_by : KExpr-F KExpr → ℕ
@@ -39,9 +39,9 @@ level_by (KExpr-F.Binary a operator b) = level operator
 unfoldable pub level_of : KExpr → ℕ
 level_of e = level_by (out-KExpr e)
 
--- an identifier, a literal of Int (Kotlin, "Integer literals"); the left operand of an operator is of its level or above, the right one above
+-- a name, a literal of Int (Kotlin, "Integer literals"); the left operand of an operator is of its level or above, the right one above
 abbrev pub stands_by : KExpr-F KExpr → Type 0
-stands_by (KExpr-F.Local name) = IsIdentifier name
+stands_by (KExpr-F.Local name) = IsName name
 stands_by (KExpr-F.Number n) = n < 2 ^ 31
 stands_by (KExpr-F.Paren inner) = Unit {0}
 stands_by (KExpr-F.Binary a operator b) = (level operator ≤ level_of a) × (level operator + 1 ≤ level_of b)
@@ -53,50 +53,29 @@ IsExpression = every-KExpr stands_by
 -- so are those of statements
 abbrev pub AreStatements : List KStmt → Type 0
 AreStatements [] = Unit {0}
-AreStatements (Val name value ∷ more) = IsIdentifier name × IsExpression value × AreStatements more
+AreStatements (Val name value ∷ more) = IsName name × IsExpression value × AreStatements more
 AreStatements (Print value ∷ more) = IsExpression value × AreStatements more
-
--- no statement declares a hard keyword
-abbrev pub DeclareNoKeyword : List KStmt → Type 0
-DeclareNoKeyword [] = Unit {0}
-DeclareNoKeyword (Val name value ∷ more) = (is_among hard_keywords name ≡ false) × DeclareNoKeyword more
-DeclareNoKeyword (Print value ∷ more) = DeclareNoKeyword more
-
--- a `main`, where there is one, declares none
-abbrev pub MainHasNoKeyword : Option KMain → Type 0
-MainHasNoKeyword None = Unit {0}
-MainHasNoKeyword (Some main) = (is_among hard_keywords main.parameter ≡ false) × DeclareNoKeyword main.body
-
--- a class, where there is one, declares none
-abbrev pub ClassHasNoKeyword : Option KClass → Type 0
-ClassHasNoKeyword None = Unit {0}
-ClassHasNoKeyword (Some class) = (is_among hard_keywords class.name ≡ false) × MainHasNoKeyword class.main
-
--- no part of a name is a hard keyword
-abbrev pub AreNoKeywords : List Name → Type 0
-AreNoKeywords [] = Unit {0}
-AreNoKeywords (name ∷ names) = (is_among hard_keywords name ≡ false) × AreNoKeywords names
-
--- no declared name and no part of the package's is a hard keyword
-abbrev pub HasNoKeyword : KFile → Type 0
-HasNoKeyword file = AreNoKeywords file.package × ClassHasNoKeyword file.class
 
 -- the parameter and the statements of a `main`, where there is one, are those of Kotlin
 abbrev pub IsMain : Option KMain → Type 0
 IsMain None = Unit {0}
-IsMain (Some main) = IsIdentifier main.parameter × AreStatements main.body
+IsMain (Some main) = IsName main.parameter × AreStatements main.body
 
 -- the name and the `main` of a class, where there is one, are those of Kotlin
 abbrev pub IsClass : Option KClass → Type 0
 IsClass None = Unit {0}
-IsClass (Some class) = IsIdentifier class.name × IsMain class.main
+IsClass (Some class) = IsName class.name × IsMain class.main
 
 -- the bytes are the file's canonical text, its names and numbers are those of Kotlin, and its operands stand (own rule until there is a reader)
 pub record KSpells (file : KFile) (bytes : List ℕ) : Type 0 where
-  pub parts : AreIdentifiers file.package
+  pub parts : AreNames file.package
   pub class : IsClass file.class
   pub text : bytes ≡ KText file
 
 -- bytes spell at most one file
 abbrev pub SpellsOne : Type 0
 SpellsOne = (file other : KFile) (bytes : List ℕ) → KSpells file bytes → KSpells other bytes → file ≡ other
+
+-- the text of a name is no hard keyword
+abbrev pub NoKeywordStandsBare : Type 0
+NoKeywordStandsBare = (name : Name) → contains_word hard_keywords (name_text name) ≡ false

@@ -13,7 +13,7 @@ ghost use Rattle.meanings.specs.SameSteps.{SameSteps, EntriesAreEntered};
 ghost use Rattle.meanings.specs.Same.{SameThreadsOf};
 ghost use Rattle.meanings.specs.Safety.{NeverTornWhereTyped};
 ghost use Rattle.meanings.specs.Laws.{SameIsEqual, SameAtEveryDepth, EqualRuns, MatchingRuns, OnlyStepsChange, ThreadsAgree, OneAnswer, ChangesOnlyWhatItSays, RunsGrow, SpellingIsKept, TypesAreKept};
-ghost use Rattle.meanings.specs.KSpells.{SpellsOne};
+ghost use Rattle.meanings.specs.KSpells.{SpellsOne, NoKeywordStandsBare};
 
 /// The Kotlin of a project whose units are taken makes exactly the steps of the project, in every run, and Torn never comes.
 pub fn same_steps()
@@ -95,6 +95,11 @@ pub fn types_are_kept()
 /// Bytes spell at most one Kotlin file.
 pub fn spells_one()
     ensures { SpellsOne }
+{}
+
+/// A hard keyword is no text of a name: it stands in backticks.
+pub fn no_keyword_stands_bare()
+    ensures { NoKeywordStandsBare }
 {}
 
 /// The canonical text of the Kotlin of a unit that is taken spells it.
