@@ -67,7 +67,6 @@ written dst classes earlier file taken is =
       place = refl;
       spelled = spelled;
       one_kotlin = λ other spells. spells_one other kotlin (KText kotlin) spells spelled;
-      no_keyword = good.keywords;
     }
 
 all_written : (dst : List ℕ) (classes earlier : List (List ℕ)) (files : List SourceFile) (java : List TakenFile) → AreTaken classes earlier files java → AreWritten dst java (files_of (trees_of java)) (kotlin_files dst java)
@@ -79,7 +78,7 @@ all_written dst classes earlier (file ∷ files) (taken ∷ java) are =
 pub headline : (words : List (List ℕ)) (files : Files) (new : Option Files) (status : Status) (text : List ℕ) → Answered (Asks words files) status text (Some files) new → status ≡ Done → Headline words files new
 headline words files new status text answered done =
     let c = of_asked words files answered.answer answered.asked (answered.status_is ∙ done) in
-    let all = project_taken (names_of c.project.sources.files) [] c.project.sources.files c.java c.project.takes.1 in
+    let all = project_taken (names_of c.project.sources.files) [] c.project.sources.files c.java c.project.takes.files in
     record {
       src = c.src;
       dst = c.dst;
@@ -91,8 +90,8 @@ headline words files new status text answered done =
       kotlin = files_of (trees_of c.java);
       written = kotlin_files c.dst c.java;
       made = answered.made ∙ ap (λ (a : Answer). with_files (Some files) a.files) c.is ∙ ap (with_files (Some files)) (map-append (placed c.dst) (map kotlin_file c.java) (report_file c.java ∷ []));
-      spelled = all_written c.dst (names_of c.project.sources.files) [] c.project.sources.files c.java c.project.takes.1;
-      typed = types_are_kept (trees_of c.java) all (project_typed (names_of c.project.sources.files) c.project.sources.files c.java c.project.takes.1);
+      spelled = all_written c.dst (names_of c.project.sources.files) [] c.project.sources.files c.java c.project.takes.files;
+      typed = types_are_kept (trees_of c.java) all (project_typed (names_of c.project.sources.files) c.project.sources.files c.java c.project.takes.files);
       steps = same_steps (trees_of c.java) c.project.sources.entries all;
       entered = entries_are_entered (trees_of c.java) c.project.sources.entries;
     }

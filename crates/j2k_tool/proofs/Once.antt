@@ -9,17 +9,20 @@ use Rattle.j2k_sources.specs.declared.loading.Sources.{Sources}
 use Rattle.j2k_sources.specs.declared.loading.Loaded.{Loaded}
 use Rattle.j2k_sources.specs.declared.loading.Loaded.TheVariants as loaded
 use Rattle.j2k_sources.specs.Sources.{IsLoaded, Exceeds}
+use Rattle.java_names.specs.Binding as names
+use Rattle.java_names.proofs.LawsToCite.{not_both, one_refusal}
+use Rattle.java_project.proofs.LawsToCite.{apart as text_apart, refused_once, spelled_once}
+use Rattle.java_unit_grammar.specs.declared.units.JUnit.{JUnit}
 use Rattle.j2k_tool.specs.declared.status.Status.{Status}
 use Rattle.j2k_tool.specs.declared.status.Status.TheVariants.{Done, ReadFault, WriteFault, NoMemory, TooLarge, OutFault}
 use Rattle.j2k_tool.specs.Asks.{Answer, converted, refused, too_large, ConvertsSources, ConvertsLoaded, Converts, AsksOver, AsksOf, Asks, Answered, IsUnless}
 use Rattle.j2k_tool.specs.declared.files.TakenFile.{TakenFile}
-use Rattle.j2k_tool.specs.declared.files.Found.TheVariants as found
 use Rattle.j2k_tool.specs.Firsts.{FirstIn}
 use Rattle.j2k_tool.specs.Paths.{class_name, with_name, names_of}
-use Rattle.j2k_tool.specs.Projects.{AreTaken, entries_fault, least, IsFirstOpen, IsFirstFault, Takes, IsProject}
-use Rattle.j2k_tool.specs.Sources.{HasTokenFault, HasSpellingFault, HasOpenForm}
+use Rattle.j2k_tool.specs.Projects.{AreTaken, entries_fault, least, HasNameFault, HasNames, IsFirstOpen, IsFirstFault, Takes, IsProject}
+use Rattle.j2k_tool.specs.Sources.{HasOpenForm}
 use Rattle.j2k_tool.specs.Words.{words_mean}
-use Rattle.j2k_tool.proofs.Uniqueness.{token_fault_once, spelling_fault_once, form_once, form_apart, taken_once as file_once, found_tokens, found_spelling}
+use Rattle.j2k_tool.proofs.Uniqueness.{form_once, form_apart, taken_once as file_once}
 use Rattle.j2k_tool.proofs.Firsts.{none_first, first_once}
 
 -- ---- files are taken in one way, or have one first fault
@@ -33,18 +36,6 @@ taken_once classes earlier (file ∷ files) (t ∷ ts) [] p q = absurd q
 taken_once classes earlier (file ∷ files) (t ∷ ts) (u ∷ us) p q =
     ap (λ (x : TakenFile). x ∷ ts) (file_once classes earlier file t u p.0 q.0)
     ∙ ap (λ (xs : List TakenFile). u ∷ xs) (taken_once classes (with_name earlier (class_name file.path)) files ts us p.1 q.1)
-
-taken_no_token : (classes earlier : List (List ℕ)) (files : List SourceFile) (ts : List TakenFile) (f : Fault) → AreTaken classes earlier files ts → FirstIn HasTokenFault earlier files f → ⊥
-taken_no_token classes earlier [] ts f p q = q
-taken_no_token classes earlier (file ∷ files) [] f p q = p
-taken_no_token classes earlier (file ∷ files) (t ∷ ts) f p (inl q) = found_tokens classes earlier file (found.Taken t) p.0 f q
-taken_no_token classes earlier (file ∷ files) (t ∷ ts) f p (inr q) = taken_no_token classes (with_name earlier (class_name file.path)) files ts f p.1 q.1
-
-taken_no_spelling : (classes earlier : List (List ℕ)) (files : List SourceFile) (ts : List TakenFile) (f : Fault) → AreTaken classes earlier files ts → FirstIn HasSpellingFault earlier files f → ⊥
-taken_no_spelling classes earlier [] ts f p q = q
-taken_no_spelling classes earlier (file ∷ files) [] f p q = p
-taken_no_spelling classes earlier (file ∷ files) (t ∷ ts) f p (inl q) = found_spelling classes earlier file (found.Taken t) p.0 f q
-taken_no_spelling classes earlier (file ∷ files) (t ∷ ts) f p (inr q) = taken_no_spelling classes (with_name earlier (class_name file.path)) files ts f p.1 q.1
 
 taken_no_form : (classes earlier : List (List ℕ)) (files : List SourceFile) (ts : List TakenFile) (f : Fault) → AreTaken classes earlier files ts → FirstIn (HasOpenForm classes) earlier files f → ⊥
 taken_no_form classes earlier [] ts f p q = q
@@ -70,31 +61,42 @@ module _ (sources : Sources) where
   open_once f g (inr (inr p)) (inr (inl q)) = absurd (none_first Forms [] sources.files p.1.0 q.1 p.1.1)
   open_once f g (inr (inr p)) (inr (inr q)) = p.1.2 ∙ ap (least entries_fault) (form_once_in p.1.0 q.1.0 p.1.1 q.1.1) ∙ sym q.1.2
 
+  -- the names of the units have one fault at most, and where they have one they aren't free of faults
+  name_fault_once : (f g : Fault) → HasNameFault sources f → HasNameFault sources g → f ≡ g
+  name_fault_once f g p q =
+      one_refusal p.units sources.entries f g p.refused
+      (subst (λ (us : List JUnit). names.IsRefused us sources.entries g) (spelled_once sources.files q.units p.units q.spelled p.spelled) q.refused)
+
+  no_name_fault : (f : Fault) → HasNames sources → HasNameFault sources f → ⊥
+  no_name_fault f p q =
+      not_both p.units sources.entries f p.bound
+      (subst (λ (us : List JUnit). names.IsRefused us sources.entries f) (spelled_once sources.files q.units p.units q.spelled p.spelled) q.refused)
+
   pub fault_once : (f g : Fault) → IsFirstFault sources f → IsFirstFault sources g → f ≡ g
-  fault_once f g (inl p) (inl q) = first_once HasTokenFault token_fault_once [] sources.files f g p q
-  fault_once f g (inl p) (inr (inl q)) = absurd (none_first HasTokenFault [] sources.files f q.0 p)
-  fault_once f g (inl p) (inr (inr q)) = absurd (none_first HasTokenFault [] sources.files f q.0 p)
-  fault_once f g (inr (inl p)) (inl q) = absurd (none_first HasTokenFault [] sources.files g p.0 q)
-  fault_once f g (inr (inl p)) (inr (inl q)) = first_once HasSpellingFault spelling_fault_once [] sources.files f g p.1 q.1
-  fault_once f g (inr (inl p)) (inr (inr q)) = absurd (none_first HasSpellingFault [] sources.files f q.1 p.1)
-  fault_once f g (inr (inr p)) (inl q) = absurd (none_first HasTokenFault [] sources.files g p.0 q)
-  fault_once f g (inr (inr p)) (inr (inl q)) = absurd (none_first HasSpellingFault [] sources.files g p.1 q.1)
-  fault_once f g (inr (inr p)) (inr (inr q)) = open_once f g p.2 q.2
+  fault_once f g (inl p) (inl q) = refused_once sources.files f g p q
+  fault_once f g (inl p) (inr (inl q)) = absurd (text_apart sources.files q.units f q.spelled p)
+  fault_once f g (inl p) (inr (inr q)) = absurd (text_apart sources.files q.0.units f q.0.spelled p)
+  fault_once f g (inr (inl p)) (inl q) = absurd (text_apart sources.files p.units g p.spelled q)
+  fault_once f g (inr (inl p)) (inr (inl q)) = name_fault_once f g p q
+  fault_once f g (inr (inl p)) (inr (inr q)) = absurd (no_name_fault f q.0 p)
+  fault_once f g (inr (inr p)) (inl q) = absurd (text_apart sources.files p.0.units g p.0.spelled q)
+  fault_once f g (inr (inr p)) (inr (inl q)) = absurd (no_name_fault g p.0 q)
+  fault_once f g (inr (inr p)) (inr (inr q)) = open_once f g p.1 q.1
 
   taken_no_open : (ts : List TakenFile) (f : Fault) → Takes sources ts → IsFirstOpen sources f → ⊥
-  taken_no_open ts f p (inl q) = taken_no_form (names_of sources.files) [] sources.files ts f p.1 q.1
-  taken_no_open ts f p (inr (inl q)) = q.0 p.0
-  taken_no_open ts f p (inr (inr q)) = q.0 p.0
+  taken_no_open ts f p (inl q) = taken_no_form (names_of sources.files) [] sources.files ts f p.files q.1
+  taken_no_open ts f p (inr (inl q)) = q.0 p.entries
+  taken_no_open ts f p (inr (inr q)) = q.0 p.entries
 
   taken_no_fault : (ts : List TakenFile) (f : Fault) → Takes sources ts → IsFirstFault sources f → ⊥
-  taken_no_fault ts f p (inl q) = taken_no_token (names_of sources.files) [] sources.files ts f p.1 q
-  taken_no_fault ts f p (inr (inl q)) = taken_no_spelling (names_of sources.files) [] sources.files ts f p.1 q.1
-  taken_no_fault ts f p (inr (inr q)) = taken_no_open ts f p q.2
+  taken_no_fault ts f p (inl q) = text_apart sources.files p.names.units f p.names.spelled q
+  taken_no_fault ts f p (inr (inl q)) = no_name_fault f p.names q
+  taken_no_fault ts f p (inr (inr q)) = taken_no_open ts f p q.1
 
 -- ---- and so ask for one answer
 
 sources_once : (dst : List ℕ) (sources : Sources) (a b : Answer) → ConvertsSources dst sources a → ConvertsSources dst sources b → a ≡ b
-sources_once dst sources a b (inl p) (inl q) = p.2 ∙ ap (converted dst) (taken_once (names_of sources.files) [] sources.files p.0 q.0 p.1.1 q.1.1) ∙ sym q.2
+sources_once dst sources a b (inl p) (inl q) = p.2 ∙ ap (converted dst) (taken_once (names_of sources.files) [] sources.files p.0 q.0 p.1.files q.1.files) ∙ sym q.2
 sources_once dst sources a b (inl p) (inr q) = absurd (taken_no_fault sources p.0 q.0 p.1 q.1)
 sources_once dst sources a b (inr p) (inl q) = absurd (taken_no_fault sources q.0 p.0 q.1 p.1)
 sources_once dst sources a b (inr p) (inr q) = p.2 ∙ ap (λ (f : Fault). refused f) (fault_once sources p.0 q.0 p.1 q.1) ∙ sym q.2
@@ -112,7 +114,7 @@ pub project_once : (src : List ℕ) (files : Files) (ts us : List TakenFile) →
 project_once src files ts us p q =
     let same = loaded_once src files (loaded.Whole p.sources) (loaded.Whole q.sources) p.has q.has in
     let sources : p.sources ≡ q.sources = cc in
-    taken_once (names_of q.sources.files) [] q.sources.files ts us (subst (λ (s : Sources). AreTaken (names_of s.files) [] s.files ts) sources p.takes.1) q.takes.1
+    taken_once (names_of q.sources.files) [] q.sources.files ts us (subst (λ (s : Sources). AreTaken (names_of s.files) [] s.files ts) sources p.takes.files) q.takes.files
 
 over_once : (there : List (List ℕ)) (src dst : List ℕ) (files : Files) (a b : Answer) → AsksOver there src dst files a → AsksOver there src dst files b → a ≡ b
 over_once [] src dst files a b p q = converts_once src dst files a b p q

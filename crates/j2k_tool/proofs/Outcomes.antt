@@ -79,7 +79,7 @@ taken_paths classes earlier (file ∷ files) (t ∷ taken) are =
 pub taken_differ : (held : Option Files) (dst : List ℕ) (sources : Sources) (taken : List TakenFile) → IfSome held (λ files. (listing dst files ≡ []) × KotlinDiffer sources.files) → Takes sources taken
     → IfSome held (λ files. (listing dst files ≡ []) × Differ (map (λ file. kotlin_path file.path) taken))
 taken_differ None dst sources taken h takes = tt
-taken_differ (Some files) dst sources taken h takes = (h.0, subst Differ (taken_paths (names_of sources.files) [] sources.files taken takes.1) h.1)
+taken_differ (Some files) dst sources taken h takes = (h.0, subst Differ (taken_paths (names_of sources.files) [] sources.files taken takes.files) h.1)
 
 what_differs : (src : List ℕ) (files : Files) (what : Loaded) → IsLoaded src files what → PathsDiffer what
 what_differs src files (loaded.Whole sources) is = kotlin_differ src files sources.files is.java

@@ -1,12 +1,14 @@
 -- What the files of a project are, file after file, and what sources are.
-use Rattle.std.proofs.Common.{◌≡◌, ◌<◌, ◌≤◌, ◌+◌, inl, inr, ℕ, Bool, true, false, not, cond, List, [], ◌∷◌, ◌++◌, length, get_or, take, Option, Some, None, refl, sym, ◌∙◌, ap, subst, arith, map}
+use Rattle.std.proofs.Common.{◌≡◌, ◌<◌, ◌≤◌, ◌+◌, ◌-◌, ◌^◌, inl, inr, ℕ, zero, suc, Bool, true, false, not, cond, List, [], ◌∷◌, ◌++◌, length, get_or, take, Option, Some, None, refl, sym, ◌∙◌, ap, subst, arith, map}
 use Rattle.std.specs.List.{list_any, count_by, flat_map}
 use Rattle.std.specs.Str.{bytes_eq}
 use Rattle.std.proofs.lemmas.List.{take_more, take_all, map-append, append-nil}
 use Rattle.std.proofs.lemmas.List.Concat.{flat_map-cons}
 use Rattle.std.proofs.lemmas.List.Sums.{sum_by-append, sum_by-cons}
 use Rattle.std.proofs.lemmas.Grind.{flat_map-append}
-use Rattle.std.proofs.lemmas.List.Elements.{All-get_or}
+use Rattle.std.proofs.lemmas.List.Elements.{All-cons, All-head, All-nil, All-tail}
+use Rattle.java_project.specs.Files.{AreShort, AreUnits, HasUnit}
+use Rattle.java_unit_grammar.specs.declared.units.JUnit.{JUnit}
 use Rattle.j2k_base.specs.declared.choices.Choice.{Choice}
 use Rattle.j2k_base.specs.declared.places.Fault.{Fault}
 use Rattle.j2k_base.specs.declared.series.SourceFile.{SourceFile}
@@ -17,13 +19,13 @@ use Rattle.j2k_tool.specs.declared.files.Found.{Found}
 use Rattle.j2k_tool.specs.declared.files.Found.TheVariants as found
 use Rattle.j2k_tool.specs.declared.writing.MadeFile.{MadeFile}
 use Rattle.j2k_tool.specs.declared.writing.Conversion.{Conversion}
-use Rattle.j2k_tool.specs.declared.project.Firsts.{Firsts}
+use Rattle.j2k_tool.specs.declared.project.Forms.{Forms}
 use Rattle.j2k_tool.specs.Paths.{class_name, with_name, with_names, names_of}
-use Rattle.j2k_tool.specs.Projects.{AreTaken, IsFirst, AreFirsts, token_fault, spelling_fault, open_form, earliest, added, with_found, IsFirstOpen, entries_fault, least}
-use Rattle.j2k_tool.specs.Sources.{HasTokenFault, HasSpellingFault, HasOpenForm, IsTaken, IsFound}
+use Rattle.j2k_tool.specs.Projects.{AreTaken, IsFirst, AreForms, open_form, earliest, added, with_found, IsFirstOpen, entries_fault, least}
+use Rattle.j2k_tool.specs.Sources.{HasOpenForm, IsTaken, IsFound}
 use Rattle.j2k_tool.specs.Report.{Choices, has_class}
 use Rattle.j2k_tool.specs.Written.{kotlin_file, conversion_of, with_taken}
-use Rattle.j2k_tool.proofs.Uniqueness.{found_tokens, found_spelling, found_form}
+use Rattle.j2k_tool.proofs.Uniqueness.{found_form}
 use Rattle.j2k_tool.proofs.Firsts.{one_more}
 
 pub names_more : (names : List (List ℕ)) (files : List SourceFile) (file : SourceFile) → with_names names (files ++ file ∷ []) ≡ with_name (with_names names files) (class_name file.path)
@@ -64,13 +66,11 @@ one_at_most true = omega arith
 one_at_most false = omega arith
 
 found_few : (c : Conversion) (x : Found) (n : ℕ) → c.classes ≤ n → (with_found c x).classes ≤ n + 1
-found_few c (found.Tokens f) n few = omega (arith, few)
-found_few c (found.Spelling f) n few = omega (arith, few)
 found_few c (found.Open f) n few = omega (arith, few)
 found_few c (found.Taken t) n few = let one = one_at_most (has_class t) in omega (arith, few, one)
 
-pub added_few : (firsts after : Firsts) (x : Found) (n : ℕ) → after ≡ added firsts x → firsts.conversion.classes ≤ n → after.conversion.classes ≤ n + 1
-added_few firsts after x n now few = subst (λ (f : Firsts). f.conversion.classes ≤ n + 1) (sym now) (found_few firsts.conversion x n few)
+pub added_few : (forms after : Forms) (x : Found) (n : ℕ) → after ≡ added forms x → forms.conversion.classes ≤ n → after.conversion.classes ≤ n + 1
+added_few forms after x n now few = subst (λ (f : Forms). f.conversion.classes ≤ n + 1) (sym now) (found_few forms.conversion x n few)
 
 -- files are taken, and become this
 abbrev Become : List (List ℕ) → List SourceFile → Conversion → Type 0
@@ -84,26 +84,22 @@ module _ (classes : List (List ℕ)) where
   one_more_taken earlier (x ∷ files) file [] taken are is = absurd are
   one_more_taken earlier (x ∷ files) file (t ∷ all) taken are is = (are.0, one_more_taken (with_name earlier (class_name x.path)) files file all taken are.1 is)
 
-  more_taken : (files : List SourceFile) (file : SourceFile) (firsts : Firsts) (x : Found) → AreFirsts classes files firsts → IsFound classes (with_names [] files) file x
-      → (added firsts x).tokens ≡ None → (added firsts x).spelling ≡ None → (added firsts x).form ≡ None → Become classes (files ++ file ∷ []) (added firsts x).conversion
-  more_taken files file firsts (found.Tokens f) are is no_tokens no_spelling no_form = let e : Some f ≡ None = right_none firsts.tokens (Some f) no_tokens in cc
-  more_taken files file firsts (found.Spelling f) are is no_tokens no_spelling no_form = let e : Some f ≡ None = right_none firsts.spelling (Some f) no_spelling in cc
-  more_taken files file firsts (found.Open f) are is no_tokens no_spelling no_form = let e : Some f ≡ None = right_none firsts.form (Some f) no_form in cc
-  more_taken files file firsts (found.Taken t) are is no_tokens no_spelling no_form =
-      let before = are.taken (left_none firsts.tokens None no_tokens) (left_none firsts.spelling None no_spelling) (left_none firsts.form None no_form) in
+  more_taken : (files : List SourceFile) (file : SourceFile) (forms : Forms) (x : Found) → AreForms classes files forms → IsFound classes (with_names [] files) file x
+      → (added forms x).form ≡ None → Become classes (files ++ file ∷ []) (added forms x).conversion
+  more_taken files file forms (found.Open f) are is none = let e : Some f ≡ None = right_none forms.form (Some f) none in cc
+  more_taken files file forms (found.Taken t) are is none =
+      let before = are.taken (left_none forms.form None none) in
       (before.0 ++ t ∷ [], one_more_taken [] files file before.0 t before.1 is, ap (λ (c : Conversion). with_taken c t) before.2 ∙ conversion_more before.0 t)
 
-  pub more_firsts : (files : List SourceFile) (file : SourceFile) (firsts : Firsts) (x : Found) → AreFirsts classes files firsts → IsFound classes (with_names [] files) file x
-      → AreFirsts classes (files ++ file ∷ []) (added firsts x)
-  more_firsts files file firsts x are is = record {
-    tokens = one_more HasTokenFault [] files file firsts.tokens (token_fault x) are.tokens (found_tokens classes (with_names [] files) file x is);
-    spelling = one_more HasSpellingFault [] files file firsts.spelling (spelling_fault x) are.spelling (found_spelling classes (with_names [] files) file x is);
-    form = one_more (HasOpenForm classes) [] files file firsts.form (open_form x) are.form (found_form classes (with_names [] files) file x is);
-    taken = more_taken files file firsts x are is;
+  pub more_forms : (files : List SourceFile) (file : SourceFile) (forms : Forms) (x : Found) → AreForms classes files forms → IsFound classes (with_names [] files) file x
+      → AreForms classes (files ++ file ∷ []) (added forms x)
+  more_forms files file forms x are is = record {
+    form = one_more (HasOpenForm classes) [] files file forms.form (open_form x) are.form (found_form classes (with_names [] files) file x is);
+    taken = more_taken files file forms x are is;
   }
 
-  pub no_firsts : (conversion : Conversion) → conversion ≡ conversion_of [] → AreFirsts classes [] (record { tokens = None; spelling = None; form = None; conversion = conversion })
-  no_firsts conversion none = record { tokens = tt; spelling = tt; form = tt; taken = λ a b c. ([], tt, none) }
+  pub no_forms : (conversion : Conversion) → conversion ≡ conversion_of [] → AreForms classes [] (record { form = None; conversion = conversion })
+  no_forms conversion none = record { form = tt; taken = λ a. ([], tt, none) }
 
 -- a name that was declared
 pub declared : (added : Bool) (names after : List (List ℕ)) (name : List ℕ) → added ≡ not (list_any (bytes_eq name) names) → after ≡ cond added (names ++ name ∷ []) names → after ≡ with_name names name
@@ -125,22 +121,41 @@ module _ (files : List SourceFile) (i : ℕ) (file : SourceFile) (h : i < length
   names_step names after before now =
       now ∙ ap (λ (n : List (List ℕ)). with_name n (class_name file.path)) before ∙ sym (names_more [] (take i files) file) ∙ ap (with_names []) (sym taken_is)
 
-  pub firsts_step : (classes earlier : List (List ℕ)) (firsts after : Firsts) (x : Found) → earlier ≡ with_names [] (take i files) → AreFirsts classes (take i files) firsts
-      → IsFound classes earlier file x → after ≡ added firsts x → AreFirsts classes (take (i + 1) files) after
-  firsts_step classes earlier firsts after x names are found now =
-      subst (AreFirsts classes (take (i + 1) files)) (sym now)
-      (subst (λ (fs : List SourceFile). AreFirsts classes fs (added firsts x)) (sym taken_is)
-      (more_firsts classes (take i files) file firsts x are (subst (λ (n : List (List ℕ)). IsFound classes n file x) names found)))
+  pub forms_step : (classes earlier : List (List ℕ)) (forms after : Forms) (x : Found) → earlier ≡ with_names [] (take i files) → AreForms classes (take i files) forms
+      → IsFound classes earlier file x → after ≡ added forms x → AreForms classes (take (i + 1) files) after
+  forms_step classes earlier forms after x names are found now =
+      subst (AreForms classes (take (i + 1) files)) (sym now)
+      (subst (λ (fs : List SourceFile). AreForms classes fs (added forms x)) (sym taken_is)
+      (more_forms classes (take i files) file forms x are (subst (λ (n : List (List ℕ)). IsFound classes n file x) names found)))
 
-  pub small_here : AreSmall files → length file.bytes ≤ most_bytes
-  small_here small = subst (λ (f : SourceFile). length f.bytes ≤ most_bytes) (sym is) (All-get_or (λ (f : SourceFile). length f.bytes ≤ most_bytes) files i file h small)
+-- ---- the units of files
+
+pub units_long : (files : List SourceFile) (units : List JUnit) → AreUnits files units → length units ≡ length files
+units_long [] [] are = refl
+units_long [] (u ∷ units) are = absurd are
+units_long (file ∷ files) [] are = absurd are
+units_long (file ∷ files) (u ∷ units) are = ap suc (units_long files units are.1)
+
+pub unit_here : (files : List SourceFile) (units : List JUnit) (i : ℕ) (file : SourceFile) (u : JUnit) → AreUnits files units → i < length files
+    → file ≡ get_or files i file → u ≡ get_or units i u → HasUnit file u
+unit_here [] units i file u are h is same = absurd (omega (arith, h))
+unit_here (x ∷ files) [] i file u are h is same = absurd are
+unit_here (x ∷ files) (v ∷ units) zero file u are h is same = subst (λ (f : SourceFile). HasUnit f u) (sym is) (subst (HasUnit x) (sym same) are.0)
+unit_here (x ∷ files) (v ∷ units) (suc i) file u are h is same = unit_here files units i file u are.1 (omega (arith, h)) is same
+
+-- files within the limit are short
+pub small_files : (files : List SourceFile) → AreSmall files → AreShort files
+small_files [] small = All-nil (λ (f : SourceFile). length f.bytes < 2 ^ 32 - 1)
+small_files (file ∷ files) small =
+    let here : length file.bytes ≤ most_bytes = All-head (λ (f : SourceFile). length f.bytes ≤ most_bytes) file files small in
+    All-cons (λ (f : SourceFile). length f.bytes < 2 ^ 32 - 1) file files (omega (arith, here)) (small_files files (All-tail (λ (f : SourceFile). length f.bytes ≤ most_bytes) file files small))
 
 pub all_names : (files : List SourceFile) (i : ℕ) (names : List (List ℕ)) → length files ≤ i → names ≡ with_names [] (take i files) → names ≡ names_of files
 all_names files i names h are = are ∙ ap (with_names []) (take_all i files h)
 
-pub all_firsts : (files : List SourceFile) (i : ℕ) (classes : List (List ℕ)) (firsts : Firsts) → length files ≤ i → classes ≡ names_of files → AreFirsts classes (take i files) firsts → AreFirsts (names_of files) files firsts
-all_firsts files i classes firsts h same are =
-    subst (λ (c : List (List ℕ)). AreFirsts c files firsts) same (subst (λ (fs : List SourceFile). AreFirsts classes fs firsts) (take_all i files h) are)
+pub all_forms : (files : List SourceFile) (i : ℕ) (classes : List (List ℕ)) (forms : Forms) → length files ≤ i → classes ≡ names_of files → AreForms classes (take i files) forms → AreForms (names_of files) files forms
+all_forms files i classes forms h same are =
+    subst (λ (c : List (List ℕ)). AreForms c files forms) same (subst (λ (fs : List SourceFile). AreForms classes fs forms) (take_all i files h) are)
 
 -- ---- with the settings
 

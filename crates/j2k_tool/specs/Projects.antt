@@ -9,19 +9,24 @@ use Rattle.j2k_io.specs.Disks.{Files}
 use Rattle.j2k_settings.specs.Settings.{settings_file}
 use Rattle.j2k_sources.specs.declared.loading.Sources.{Sources}
 use Rattle.j2k_sources.specs.Sources.{HasSources}
+use Rattle.java_names.specs.Binding as names
+use Rattle.java_names.specs.Binding.{IsBound}
+use Rattle.java_project.specs.Files as text
+use Rattle.java_project.specs.Files.{IsSpelled}
 use Rattle.java_typed.specs.declared.units.TUnit.{TUnit}
+use Rattle.java_unit_grammar.specs.declared.units.JUnit.{JUnit}
 use Rattle.j2k_tool.specs.declared.files.TakenFile.{TakenFile}
 use Rattle.j2k_tool.specs.declared.files.Found.{Found}
 use Rattle.j2k_tool.specs.declared.files.Found.TheVariants as found
 use Rattle.j2k_tool.specs.declared.writing.Conversion.{Conversion}
-use Rattle.j2k_tool.specs.declared.project.Firsts.{Firsts}
+use Rattle.j2k_tool.specs.declared.project.Forms.{Forms}
 use Rattle.j2k_tool.specs.declared.project.Project.{Project}
 use Rattle.j2k_tool.specs.declared.project.Project.TheVariants.{Taken, Refused}
 use Rattle.j2k_faults.specs.Faults.{not_built}
 use Rattle.j2k_tool.specs.Firsts.{FirstIn, NoneIn}
 use Rattle.j2k_tool.specs.Paths.{class_name, with_name, names_of}
 use Rattle.j2k_tool.specs.Written.{conversion_of, with_taken}
-use Rattle.j2k_tool.specs.Sources.{HasTokenFault, HasSpellingFault, HasOpenForm, IsTaken}
+use Rattle.j2k_tool.specs.Sources.{HasOpenForm, IsTaken}
 
 abbrev pub paths_of : List SourceFile → List (List ℕ)
 paths_of files = map (λ file. file.path) files
@@ -58,18 +63,29 @@ IsFirstOpen sources fault =
     ⊎ ((sources.entries ≢ []) × NoneIn (HasOpenForm (names_of sources.files)) [] sources.files × (fault ≡ entries_fault))
     ⊎ ((sources.entries ≢ []) × ((first : Fault) × FirstIn (HasOpenForm (names_of sources.files)) [] sources.files first × (fault ≡ least entries_fault first)))
 
--- The first fault of a project is one of the tokens of its files; where none has one, one of their spelling; and else an open form.
+-- The files spell units, whose names have no fault (JLS 6).
+pub record HasNames (sources : Sources) : Type 0 where
+  pub units : List JUnit
+  pub spelled : IsSpelled sources.files units
+  pub bound : IsBound units sources.entries
+
+-- The files spell units, and the fault is the first of their names.
+pub record HasNameFault (sources : Sources) (fault : Fault) : Type 0 where
+  pub units : List JUnit
+  pub spelled : IsSpelled sources.files units
+  pub refused : names.IsRefused units sources.entries fault
+
+-- The first fault of a project is one of the text of its files; where all spell units, one of their names; and else an open form.
 abbrev pub IsFirstFault : Sources → Fault → Type 0
-IsFirstFault sources fault =
-    FirstIn HasTokenFault [] sources.files fault
-    ⊎ (NoneIn HasTokenFault [] sources.files × FirstIn HasSpellingFault [] sources.files fault)
-    ⊎ (NoneIn HasTokenFault [] sources.files × NoneIn HasSpellingFault [] sources.files × IsFirstOpen sources fault)
+IsFirstFault sources fault = text.IsRefused sources.files fault ⊎ HasNameFault sources fault ⊎ (HasNames sources × IsFirstOpen sources fault)
 
 -- ---- projects
 
--- sources without entries, whose files are taken
-abbrev pub Takes : Sources → List TakenFile → Type 0
-Takes sources taken = (sources.entries ≡ []) × AreTaken (names_of sources.files) [] sources.files taken
+-- sources without entries, whose names have no fault, and whose files are taken
+pub record Takes (sources : Sources) (taken : List TakenFile) : Type 0 where
+  pub entries : sources.entries ≡ []
+  pub names : HasNames sources
+  pub files : AreTaken (names_of sources.files) [] sources.files taken
 
 -- The files under a folder, within the limits, are taken.
 pub record IsProject (src : List ℕ) (files : Files) (taken : List TakenFile) : Type 0 where
@@ -93,40 +109,24 @@ abbrev pub IsFirst : (List (List ℕ) → SourceFile → Fault → Type 0) → L
 IsFirst faults earlier files None = NoneIn faults earlier files
 IsFirst faults earlier files (Some fault) = FirstIn faults earlier files fault
 
--- the first of each kind among files of a project whose classes have these names, and where there is none what the files become
-pub record AreFirsts (classes : List (List ℕ)) (files : List SourceFile) (firsts : Firsts) : Type 0 where
-  pub tokens : IsFirst HasTokenFault [] files firsts.tokens
-  pub spelling : IsFirst HasSpellingFault [] files firsts.spelling
-  pub form : IsFirst (HasOpenForm classes) [] files firsts.form
-  pub taken : firsts.tokens ≡ None → firsts.spelling ≡ None → firsts.form ≡ None
-      → (taken : List TakenFile) × AreTaken classes [] files taken × (firsts.conversion ≡ conversion_of taken)
+-- the first open form among files of a project whose classes have these names, and where there is none what the files become
+pub record AreForms (classes : List (List ℕ)) (files : List SourceFile) (forms : Forms) : Type 0 where
+  pub form : IsFirst (HasOpenForm classes) [] files forms.form
+  pub taken : forms.form ≡ None → (taken : List TakenFile) × AreTaken classes [] files taken × (forms.conversion ≡ conversion_of taken)
 
--- the fault of each kind that is found
-abbrev pub token_fault : Found → Option Fault
-token_fault (found.Tokens fault) = Some fault
-token_fault _ = None
-
-abbrev pub spelling_fault : Found → Option Fault
-spelling_fault (found.Spelling fault) = Some fault
-spelling_fault _ = None
-
+-- the open form that is found
 abbrev pub open_form : Found → Option Fault
 open_form (found.Open fault) = Some fault
-open_form _ = None
+open_form (found.Taken taken) = None
 
 abbrev pub with_found : Conversion → Found → Conversion
+with_found conversion (found.Open fault) = conversion
 with_found conversion (found.Taken taken) = with_taken conversion taken
-with_found conversion _ = conversion
 
 -- the first of two that there is
 abbrev pub earliest : Option Fault → Option Fault → Option Fault
 earliest None b = b
 earliest (Some a) b = Some a
 
-abbrev pub added : Firsts → Found → Firsts
-added firsts found = record {
-  tokens = earliest firsts.tokens (token_fault found);
-  spelling = earliest firsts.spelling (spelling_fault found);
-  form = earliest firsts.form (open_form found);
-  conversion = with_found firsts.conversion found;
-}
+abbrev pub added : Forms → Found → Forms
+added forms found = record { form = earliest forms.form (open_form found); conversion = with_found forms.conversion found }

@@ -1,19 +1,25 @@
 // The files of a project.
 ghost use Rattle.std.specs.Prelude.{◌≡◌, ◌<◌, ◌+◌, ◌^◌, [], Some, None, IfOk, OnOk, IfSome, IfNone};
 ghost use Rattle.j2k_sources.specs.Sources.{AreSmall};
-ghost use Rattle.j2k_tool.specs.Projects.{precedes as precedes_by, least as least_by, entries_fault as entries_fault_by, earliest, added, AreFirsts, IsFirstOpen, IsFirst, IsJudged};
+ghost use Rattle.java_names.specs.Binding.{IsBound};
+ghost use Rattle.java_project.specs.Files.{IsSpelled};
+ghost use Rattle.j2k_tool.specs.Projects.{precedes as precedes_by, least as least_by, entries_fault as entries_fault_by, earliest, added, AreForms, IsFirstOpen, IsFirst, IsJudged};
 ghost use Rattle.j2k_tool.specs.Paths.{class_name as class_name_by, with_name, names_of as names_by};
 ghost use Rattle.j2k_tool.specs.Sources.{HasOpenForm};
 
 use crate::files::{Found, look};
 use crate::paths::class_name;
 use crate::writing::Conversion;
-use j2k_base::{Fault, NoMemory, SourceFile, Text};
+use j2k_base::{Fault, NoMemory, SourceFile, Stop, Text};
 use j2k_faults::not_built;
 use j2k_settings::SETTINGS_FILE;
 use j2k_sources::Sources;
+use java_names::{Bound, bind, let_go};
+use java_project::spelling;
 use java_taken::Names;
 use java_tree::Position;
+use java_unit_grammar::JUnit;
+use sqlite_items::Items;
 use std::alloc::Global;
 
 /// What sources are: a project that is taken, as it is converted, or one that is refused with its first fault.
@@ -28,19 +34,42 @@ pub fn judge(alloc: Global, sources: &Sources) -> Result<Project, NoMemory>
     requires { AreSmall sources.now.files }
     ensures { IfOk result (IsJudged sources.now) }
 {
+    match spelling(alloc, sources.files.as_slice())? {
+        Ok(units) => judge_units(alloc, sources, units),
+        Err(fault) => Ok(Project::Refused(fault)),
+    }
+}
+
+/// Judges the names of a project.
+fn judge_units(alloc: Global, sources: &Sources, units: Items<JUnit>) -> Result<Project, NoMemory>
+    requires { IsSpelled sources.now.files units }
+    ensures { IfOk result (IsJudged sources.now) }
+{
+    match bind(alloc, units, &sources.entries) {
+        Ok(bound) => judge_bound(alloc, sources, bound),
+        Err(Stop::Fault(fault)) => Ok(Project::Refused(fault)),
+        Err(Stop::Memory) => Err(NoMemory),
+    }
+}
+
+/// Judges the forms of a project whose names have no fault, and lets the project go.
+fn judge_bound(alloc: Global, sources: &Sources, bound: Bound) -> Result<Project, NoMemory>
+    requires spelled { IsSpelled sources.now.files bound.units }
+    requires bound { IsBound bound.units sources.now.entries }
+    ensures { IfOk result (IsJudged sources.now) }
+{
+    let judged = judge_forms(alloc, sources, bound.units.as_slice());
+    let_go(bound);
+    judged
+}
+
+fn judge_forms(alloc: Global, sources: &Sources, units: &[JUnit]) -> Result<Project, NoMemory>
+    requires spelled { IsSpelled sources.now.files units.now }
+    requires bound { IsBound units.now sources.now.entries }
+    ensures { IfOk result (IsJudged sources.now) }
+{
     let classes = names_of(alloc, sources.files.as_slice())?;
-    let Firsts {
-        tokens,
-        spelling,
-        form,
-        conversion,
-    } = firsts_of(alloc, &classes, sources.files.as_slice())?;
-    if let Some(fault) = tokens {
-        return Ok(Project::Refused(fault));
-    }
-    if let Some(fault) = spelling {
-        return Ok(Project::Refused(fault));
-    }
+    let Forms { form, conversion } = forms_of(alloc, &classes, sources.files.as_slice(), units)?;
     match first_open(alloc, sources, form)? {
         Some(fault) => Ok(Project::Refused(fault)),
         None => Ok(Project::Taken(conversion)),
@@ -96,24 +125,20 @@ fn precedes(a: &str, b: &str) -> bool
     a.as_bytes().cmp(b.as_bytes()).is_lt()
 }
 
-/// The first fault of each kind among files, and what the files that are taken become.
+/// The first open form among files, and what the files that are taken become.
 #[derive(Debug, Drop)]
-struct Firsts {
-    tokens: Option<Fault>,
-    spelling: Option<Fault>,
+struct Forms {
     form: Option<Fault>,
     conversion: Conversion,
 }
 
-impl Firsts {
+impl Forms {
     /// With what is found of one more file.
     fn add(&mut self, alloc: Global, found: Found) -> Result<(), NoMemory>
         requires few { self.old.conversion.classes + 1 < 2 ^ 64 }
         ensures { OnOk result (self.new ≡ added self.old found) }
     {
         match found {
-            Found::Tokens(fault) => keep_first(&mut self.tokens, fault),
-            Found::Spelling(fault) => keep_first(&mut self.spelling, fault),
             Found::Open(fault) => keep_first(&mut self.form, fault),
             Found::Taken(file) => self.conversion.add(alloc, &file)?,
         }
@@ -129,24 +154,27 @@ fn keep_first(first: &mut Option<Fault>, fault: Fault)
     }
 }
 
-/// Looks at each file of a project, whose classes have these names, behind the files before it. No tree is kept.
-fn firsts_of(alloc: Global, classes: &Names, files: &[SourceFile]) -> Result<Firsts, NoMemory>
-    requires { AreSmall files.now }
-    ensures { IfOk result (AreFirsts classes.now files.now) }
+/// Looks at each file of a project, whose classes have these names, behind the files before it. No typed tree is kept.
+fn forms_of(
+    alloc: Global,
+    classes: &Names,
+    files: &[SourceFile],
+    units: &[JUnit],
+) -> Result<Forms, NoMemory>
+    requires { IsSpelled files.now units.now }
+    ensures { IfOk result (AreForms classes.now files.now) }
 {
     let mut earlier = Names::new(alloc);
-    let mut firsts = Firsts {
-        tokens: None,
-        spelling: None,
+    let mut forms = Forms {
         form: None,
         conversion: Conversion::new(alloc),
     };
-    for file in files {
-        let found = look(alloc, classes, &earlier, file)?;
-        firsts.add(alloc, found)?;
+    for (number, file) in files.iter().enumerate() {
+        let found = look(alloc, classes, &earlier, file, &units[number])?;
+        forms.add(alloc, found)?;
         declare(&mut earlier, file.path.as_str())?;
     }
-    Ok(firsts)
+    Ok(forms)
 }
 
 /// The names of the classes of files.
