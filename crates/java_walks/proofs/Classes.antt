@@ -1,5 +1,5 @@
 -- Every node of a class and of a unit is seen, and nothing else.
-use Rattle.std.proofs.Common.{◌≡◌, ℕ, List, [], ◌∷◌, ◌++◌, Option, Some, None}
+use Rattle.std.proofs.Common.{ℕ, List, [], ◌∷◌, ◌++◌, Option, Some, None}
 use Rattle.std.specs.List.{AllByRecursion, flat_map}
 use Rattle.java_typed.specs.declared.types.TWritten.{TWritten}
 use Rattle.java_typed.specs.declared.exprs.TExpr.{TExpr}

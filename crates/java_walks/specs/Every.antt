@@ -1,6 +1,6 @@
 -- Classes and units each of whose nodes satisfies a condition: all types and expressions of their members, initializers and bodies
 -- (JLS 7.3, 8, 9).
-use Rattle.std.specs.Prelude.{ℕ, List, [], ◌++◌, Option, Some, None}
+use Rattle.std.specs.Prelude.{ℕ, List, [], Option, Some, None}
 use Rattle.std.specs.List.{AllByRecursion, flat_map}
 use Rattle.java_typed.specs.declared.types.TWritten.{TWritten}
 use Rattle.java_typed.specs.declared.exprs.TExpr.{TExpr}
@@ -19,7 +19,7 @@ use Rattle.java_typed.specs.declared.units.TInitializer.{TInitializer}
 use Rattle.java_typed.specs.declared.units.TInitializer.TheVariants as part
 use Rattle.java_typed.specs.declared.units.TClass.{TClass}
 use Rattle.java_typed.specs.declared.units.TUnit.{TUnit}
-use Rattle.java_walks.specs.Texts.{of_bound, of_class, of_type_param}
+use Rattle.java_walks.specs.Texts.{of_class}
 use Rattle.java_walks.specs.Nodes.{own_body, own_catch, own_group, own_statement}
 
 module _ {A : Type 0} (of_value : TExpr → List A) (of_type : TWritten → List A) (of_inner : ℕ → List A) (P : A → Type 0) where
