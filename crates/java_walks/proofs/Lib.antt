@@ -1,3 +1,4 @@
+pub mod Classes
 pub mod LawsToCite
 mod Nodes
 mod Statements

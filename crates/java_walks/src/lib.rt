@@ -3,4 +3,4 @@
 
 mod laws;
 
-pub use laws::{walks_see_all_nodes, walks_see_all_statements};
+pub use laws::{walks_see_all_nodes, walks_see_all_statements, walks_see_whole_units};
