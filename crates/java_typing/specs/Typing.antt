@@ -159,7 +159,7 @@ module _ (heads : Heads) (declared : Declared) where
         Holds (Is x (r.Value a)) → Holds (Is y (r.Value b)) → (same a string_type || same b string_type) ≡ true → Holds (Is (t.Concat x at y) (r.Value string_type))
     -- JLS 15.21.3: one could be cast to the type of the other
     same_reference : (x : TExpr) (is_equal : Bool) (at : Position) (y : TExpr) (a b : TType) →
-        Holds (Is x (r.Value a)) → Holds (Is y (r.Value b)) → is_castable heads a b ≡ true → Holds (Is (t.Same x is_equal at y) (r.Value k.Boolean))
+        Holds (Is x (r.Value a)) → Holds (Is y (r.Value b)) → (is_castable heads a b || is_castable heads b a) ≡ true → Holds (Is (t.Same x is_equal at y) (r.Value k.Boolean))
     -- JLS 15.20.2
     instance : (x : TExpr) (at : Position) (of : TWritten) (a : TType) →
         Holds (Is x (r.Value a)) → is_castable heads a of.kind ≡ true → Holds (Is (t.Instanceof x at of) (r.Value k.Boolean))
